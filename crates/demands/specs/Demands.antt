@@ -1,0 +1,224 @@
+-- THE DEMANDS, each as a type; proofs/ has a proof of each. To be read with 01 beside it.
+use mathlib.Core.Path.{_≡_}
+use mathlib.Core.Bool.{Bool, true, false, not}
+use mathlib.Core.Logic.{_⊎_, _≢_}
+use mathlib.Core.List.{List, [], _∷_, _++_, map}
+use mathlib.Core.Option.{Option, none, some}
+use Prim.Native.Nat.{ℕ, _-_, _≤_, _<_, min}
+use lib.ListN.{length, getD, take, set}
+use Rattle.paper.specs.Settings.{Size, twelve, freshBytes}
+use Rattle.paper.specs.Queue.{oldest, itemsOf, flags}
+use Rattle.paper.specs.Stream.{Character, images, sort, byte, front, Decoded, decode, cleanFront}
+use Rattle.paper.specs.Channel.{Channel, fresh, ChannelCall, arrive, read, settings, reset, state, lent, written, channelStep}
+use Rattle.paper.specs.Card.{Card, freshCard, Call, on, pick, Done, step, at, ready}
+use Rattle.paper.specs.Run.{Named, Moment, run, end, nameless}
+use Rattle.paper.specs.Bounds.{Sound}
+use Rattle.paper.specs.Frames.{lineCall, Reply, reply, program}
+use Rattle.paper.specs.declared.Refusal.the-variants.{BrokenStream, ShortOutput}
+use Rattle.paper.specs.declared.Reading.the-variants.{Items, Unread}
+use Rattle.paper.specs.declared.Answer.{Answer}
+use Rattle.paper.specs.declared.Answer.the-variants.{Handed, Shown, Picked}
+use Rattle.demands.specs.Text.{text}
+use Rattle.demands.specs.Marks.{characterOf, stream, Accepts}
+use Rattle.demands.specs.History.{isRefused, Entry, port, sinceReset, NoReset, handed, bytesFound, Marking, stored, lost, events, between, befores, numbered, Each, NoWorse, NoPick}
+use Rattle.demands.specs.Conditions.{conditions, FirstDue}
+use Rattle.demands.specs.FrameTable.{Calls}
+
+-- EXAMPLES
+
+-- fresh settings but for a field
+abbrev pub but : (field value : ℕ) → List ℕ → List ℕ
+but field value l = set l (field - 1) value
+
+-- the stored image of one arrival, under settings
+abbrev pub imageOf : List ℕ → (kind byte : ℕ) → List ℕ
+imageOf l kind b =
+    let set = channelStep twelve (tt {0}) fresh (settings l) .next in
+    images (itemsOf (channelStep twelve (tt {0}) set (arrive kind b) .next .queue .slots))
+
+-- "Prove these as one table"; kinds 0 good, 1 parity, 2 framing, 3 break
+abbrev pub Table : Type 0
+Table =
+    imageOf freshBytes 0 0x41
+    ∷ imageOf freshBytes 3 0
+    ∷ imageOf (but 2 0 freshBytes) 3 0
+    ∷ imageOf (but 1 4 freshBytes) 3 0
+    ∷ imageOf (but 1 4 freshBytes) 0 0xFF
+    ∷ imageOf (but 1 4 (but 3 1 freshBytes)) 0 0xFF
+    ∷ imageOf (but 1 4 (but 3 1 freshBytes)) 1 0xC1
+    ∷ imageOf (but 1 2 freshBytes) 2 0x41
+    ∷ imageOf (but 1 3 freshBytes) 1 0x41
+    ∷ imageOf (but 4 3 freshBytes) 0 0x0A
+    ∷ imageOf (but 4 5 freshBytes) 0 0x0A
+    ∷ imageOf (but 4 6 freshBytes) 0 0x0D
+    ∷ []
+    ≡ (0x41 ∷ [])
+    ∷ (0x00 ∷ [])
+    ∷ []
+    ∷ (0xFF ∷ 0x00 ∷ 0x00 ∷ [])
+    ∷ (0xFF ∷ 0xFF ∷ [])
+    ∷ (0x7F ∷ [])
+    ∷ (0xFF ∷ 0x00 ∷ 0xC1 ∷ [])
+    ∷ []
+    ∷ (0x00 ∷ [])
+    ∷ (0x0D ∷ [])
+    ∷ (0x0D ∷ [])
+    ∷ []
+    ∷ []
+
+-- "Whole case, input then output"
+abbrev pub WholeCase : Type 0
+WholeCase =
+    program twelve
+    (text "0700040100020200010200011113000016\n010000FF\n01000141\n01000013\n01000016\n01000013\n0100000D\n08\n03000A42\n0400\n01000011\n0400\n0400\n0A00\n02000C\n01040041\n")
+    ≡ text "00\n0000\n0000\n0001\n0000\n0000\n0000\n0000\n0002\n0000\n0001\n00010D\n00010A\n000501000000\n000500FFFFFF004116130A\n01\n"
+
+-- DEMAND 2: THE READER
+
+-- "reading the stream back gives the characters", and "every stream the reader accepts is the image of exactly one such list"
+pub record Reader : Type 0 where
+  pub reads-back : (cs : List Character) → Accepts (stream cs) cs
+  pub only-images : (s : List ℕ) (cs : List Character) → Accepts s cs → s ≡ stream cs
+  pub once : (cs ds : List Character) → stream cs ≡ stream ds → cs ≡ ds
+
+-- "the first such FF is named": it is an FF, what stands before it reads back, and no reading passes it
+pub record FirstBroken (s : List ℕ) (place : ℕ) : Type 0 where
+  pub mark : getD s place 0 ≡ 0xFF
+  pub inside : place < length s
+  pub before : (cs : List Character) × Accepts (take place s) cs
+  pub no-further : (cs : List Character) (t : List ℕ) → s ≡ stream cs ++ t → length (stream cs) ≤ place
+
+-- the three answers of the reader's call, "9 before 8", with both buffers afterwards
+pub data ReaderGives (s sorts bytes : List ℕ) : Decoded → Type 0 where
+  short : (length sorts < length s) ⊎ (length bytes < length s)
+      → ReaderGives s sorts bytes (record { answer = Unread ShortOutput; sorts = sorts; bytes = bytes })
+  broken : length s ≤ length sorts → length s ≤ length bytes → (place : ℕ) → FirstBroken s place
+      → ReaderGives s sorts bytes (record { answer = Unread (BrokenStream place); sorts = sorts; bytes = bytes })
+  served : length s ≤ length sorts → length s ≤ length bytes → (cs : List Character) → Accepts s cs
+      → ReaderGives s sorts bytes (record { answer = Items (length cs); sorts = front (map sort cs) sorts; bytes = front (map byte cs) bytes })
+
+abbrev pub ReaderCall : Type 0
+ReaderCall = (s sorts bytes : List ℕ) → ReaderGives s sorts bytes (decode s sorts bytes)
+
+-- "the front of a stream up to its first FF"
+pub record CleanFront (s : List ℕ) : Type 0 where
+  pub rest : List ℕ
+  pub whole : s ≡ cleanFront s ++ rest
+  pub clean : (i : ℕ) → i < length (cleanFront s) → getD (cleanFront s) i 0 ≢ 0xFF
+  pub ends : (rest ≡ []) ⊎ (getD rest 0 0 ≡ 0xFF)
+
+-- DEMAND 2: WHOLE CALL SEQUENCES
+
+-- what the calls on port n were, and what they answered; and the channel after them
+abbrev pub history : {A : Type 0} → Size → ℕ → List (Named A Call) → List (Entry A)
+history z n cs = port n (run z freshCard cs)
+
+abbrev pub after : {A : Type 0} → Size → ℕ → List (Named A Call) → Channel A
+after z n cs = at (end z freshCard cs) n
+
+-- "Where marking was on at every arrival, reading the stream back gives the characters handed over, good or damaged as stored, in order"
+abbrev pub ReadBack : Type 0
+ReadBack =
+    (z : Size) (n : ℕ) → n < 4 → (cs : List Call)
+    → let es = history z n (nameless cs) in
+    Marking es → Accepts (bytesFound es) (map characterOf (itemsOf (handed es)))
+
+-- first in, first out: what was handed over, and then what still waits, is what the arrivals with fate 0 stored since the last reset, in
+-- order; the overrun flag is on those behind which a loss happened while they were the newest, and on no others
+abbrev pub FirstInFirstOut : Type 1
+FirstInFirstOut =
+    (A : Type 0) (z : Size) (n : ℕ) → n < 4 → (cs : List (Named A Call))
+    → let es = sinceReset (history z n cs) in
+    handed es ++ after z n cs .queue .slots ≡ stored es
+
+-- the loss count is the number of fates 2 since the last reset, "staying at 65,535"
+abbrev pub LossCount : Type 1
+LossCount =
+    (A : Type 0) (z : Size) (n : ℕ) → n < 4 → (cs : List (Named A Call))
+    → after z n cs .queue .losses ≡ min (lost (sinceReset (history z n cs))) 65535
+
+-- a read tells of what it hands over and a state of what there is: no count is made up
+pub record Told : Type 1 where
+  pub read : (A : Type 0) (z : Size) (a : A) (K : Card A) (n count place : ℕ) (buffer : List ℕ)
+      → let d = step z a K (on n (read count place buffer)) in
+      let out = oldest count (at K n .queue) in
+      isRefused (d .answer) ≡ false
+      → (d .answer ≡ Handed (length out) (flags out) (length (images (itemsOf out)))) × (d .lent ≡ written buffer place (images (itemsOf out)))
+  pub state : (A : Type 0) (z : Size) (a : A) (K : Card A) (n : ℕ)
+      → let h = at K n in
+      isRefused (step z a K (on n state) .answer) ≡ false
+      → step z a K (on n state) .answer ≡ Shown (length (h .queue .slots)) (length (h .transmitter .bytes)) (not (h .flags .running)) (h .queue .losses)
+
+-- DEMAND 3
+
+-- "Take two hosts on one port, both from a fresh start, with the same arrivals and setting changes in the same order, and no resets. Suppose
+-- that between each two arrivals the second host asks for at least as many characters as the first. Then just before every arrival the second
+-- has been handed each character the first has, identified by its arrival; and none that the first's queue accepted is lost to the second."
+abbrev pub ReadingMore : Type 0
+ReadingMore =
+    (z : Size) (n : ℕ) → n < 4 → (cs ds : List Call)
+    → let first = history z n (numbered n 0 cs) in
+    let second = history z n (numbered n 0 ds) in
+    NoReset first → NoReset second
+    → events first ≡ events second
+    → Each _≤_ (between first) (between second)
+    → Each NoWorse (befores [] first) (befores [] second)
+
+-- names, and so the numbering, change no answer and no lent byte
+abbrev pub told : {A : Type 0} → Moment A → Answer × List ℕ
+told m = (m .done .answer, m .done .lent)
+
+abbrev pub NamesUnseen : Type 1
+NamesUnseen =
+    (A : Type 0) (z : Size) (cs : List (Named A Call))
+    → map told (run z freshCard cs) ≡ map told (run z freshCard (nameless (map (λ (c : Named A Call). c .call) cs)))
+
+-- ONE CHANNEL AND THE OTHERS
+
+-- "A call on one channel alters no other channel, nor the pick's place. Answers depend only on that channel". So a reset moves no place.
+pub record Isolation : Type 1 where
+  pub others : (A : Type 0) (z : Size) (a : A) (K : Card A) (n : ℕ) (c : ChannelCall) (m : ℕ)
+      → m ≢ n → at (step z a K (on n c) .next) m ≡ at K m
+  pub place : (A : Type 0) (z : Size) (a : A) (K : Card A) (n : ℕ) (c : ChannelCall) → step z a K (on n c) .next .place ≡ K .place
+  pub alone : (A : Type 0) (z : Size) (a : A) (K L : Card A) (n : ℕ) (c : ChannelCall)
+      → length (K .channels) ≡ length (L .channels) → at K n ≡ at L n
+      → let d = step z a K (on n c) in
+      let e = step z a L (on n c) in
+      (d .answer ≡ e .answer) × (d .lent ≡ e .lent) × (at (d .next) n ≡ at (e .next) n)
+
+-- "A channel at its threshold at each of four picks in a row is named by one of them", whatever other calls stand between
+abbrev pub FourPicks : Type 1
+FourPicks =
+    (A : Type 0) (z : Size) (a : A) (K : Card A) (n : ℕ) → n < 4
+    → (cs₁ cs₂ cs₃ : List (Named A Call)) → NoPick cs₁ → NoPick cs₂ → NoPick cs₃
+    → let K₁ = end z (step z a K pick .next) cs₁ in
+    let K₂ = end z (step z a K₁ pick .next) cs₂ in
+    let K₃ = end z (step z a K₂ pick .next) cs₃ in
+    ready K n ≡ true → ready K₁ n ≡ true → ready K₂ n ≡ true → ready K₃ n ≡ true
+    → (step z a K pick .answer ≡ Picked n) ⊎ ((step z a K₁ pick .answer ≡ Picked n) ⊎ ((step z a K₂ pick .answer ≡ Picked n) ⊎ (step z a K₃ pick .answer ≡ Picked n)))
+
+-- DEMAND 1
+
+abbrev pub lentBy : Call → List ℕ
+lentBy (on n c) = lent c
+lentBy pick = []
+
+-- "refused by a fixed number, with the card and all lent bytes unchanged"; "No refusal is given outside these conditions"
+pub record Refusals : Type 2 where
+  pub unchanged : (A : Type 0) (z : Size) (a : A) (K : Card A) (c : Call)
+      → let d = step z a K c in
+      isRefused (d .answer) ≡ true → (d .next ≡ K) × (d .lent ≡ lentBy c)
+  pub exact : (A : Type 0) (z : Size) (a : A) (K : Card A) (c : Call) → FirstDue (conditions z K c) (step z a K c .answer)
+
+-- "11 comes before all others": a line makes a call exactly if it spells a frame; any other answers 0B alone, and the card stays
+pub record Lines : Type 0 where
+  pub calls : (z : Size) (line : List ℕ) (c : Call) → Calls z line c → lineCall z line ≡ some c
+  pub called : (z : Size) (line : List ℕ) (c : Call) → lineCall z line ≡ some c → Calls z line c
+  pub refused : (z : Size) (K : Card Unit) (line : List ℕ) → lineCall z line ≡ none → reply z K line ≡ record { text = text "0B\n"; next = K }
+
+-- BOUNDS
+
+-- "shown of a fresh one and kept by every call"
+pub record Bounds : Type 1 where
+  pub fresh : (A : Type 0) (z : Size) → 1 ≤ z .most → Sound {A = A} z freshCard
+  pub kept : (A : Type 0) (z : Size) (a : A) (K : Card A) (c : Call) → 1 ≤ z .most → Sound z K → Sound z (step z a K c .next)

@@ -1,0 +1,37 @@
+-- 01, "Frame program": its table of frames, as the lines that make a call. Every other line is refusal 11.
+use mathlib.Core.Path.{_≡_}
+use mathlib.Core.List.{List, [], _∷_}
+use mathlib.Core.Option.{some}
+use Prim.Native.Nat.{ℕ, _+_, _*_, _≤_}
+use lib.ListN.{length, replicate}
+use Rattle.paper.specs.Settings.{Size}
+use Rattle.paper.specs.Transmitter.{load, turn, cts, special}
+use Rattle.paper.specs.Channel.{arrive, read, settings, reset, state, line}
+use Rattle.paper.specs.Card.{Call, on, pick}
+use Rattle.paper.specs.Frames.{digit}
+
+-- a text that spells bytes, two digits each
+pub data Spells : (text bytes : List ℕ) → Type 0 where
+  empty : Spells [] []
+  byte : {a b high low : ℕ} {text bytes : List ℕ}
+      → digit a ≡ some high → digit b ≡ some low → Spells text bytes → Spells (a ∷ b ∷ text) ((high * 16 + low) ∷ bytes)
+
+-- "Frames: 01 channel kind byte; ..."
+pub data Frame (z : Size) : List ℕ → Call → Type 0 where
+  frame01 : (channel kind b : ℕ) → Frame z (0x01 ∷ channel ∷ kind ∷ b ∷ []) (on channel (arrive kind b))
+  frame02 : (channel n : ℕ) → Frame z (0x02 ∷ channel ∷ n ∷ []) (on channel (read n 0 (replicate (3 * z .most) 0)))
+  frame03 : (channel : ℕ) (l : List ℕ) → Frame z (0x03 ∷ channel ∷ l) (on channel (line (load l)))
+  frame04 : (channel : ℕ) → Frame z (0x04 ∷ channel ∷ []) (on channel (line turn))
+  frame05 : (channel v : ℕ) → Frame z (0x05 ∷ channel ∷ v ∷ []) (on channel (line (cts v)))
+  frame06 : (channel s : ℕ) → Frame z (0x06 ∷ channel ∷ s ∷ []) (on channel (line (special s)))
+  frame07 : (channel : ℕ) (l : List ℕ) → Frame z (0x07 ∷ channel ∷ l) (on channel (settings l))
+  frame08 : Frame z (0x08 ∷ []) pick
+  frame09 : (channel : ℕ) → Frame z (0x09 ∷ channel ∷ []) (on channel reset)
+  frame0A : (channel : ℕ) → Frame z (0x0A ∷ channel ∷ []) (on channel state)
+
+-- a line that makes a call: it spells a frame of the table, of "at most 34 bytes"
+pub record Calls (z : Size) (text : List ℕ) (c : Call) : Type 0 where
+  pub bytes : List ℕ
+  pub spells : Spells text bytes
+  pub short : length bytes ≤ 34
+  pub frame : Frame z bytes c

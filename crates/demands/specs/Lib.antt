@@ -1,0 +1,6 @@
+pub mod Text
+pub mod Marks
+pub mod History
+pub mod Conditions
+pub mod FrameTable
+pub mod Demands

@@ -1,0 +1,165 @@
+-- 01, "Frame program": hexadecimal lines, frames, answers, and the whole program as a function from input text to output text.
+use mathlib.Core.Bool.{Bool, true, false, _&&_, _||_}
+use mathlib.Core.List.{List, [], _∷_, _++_}
+use mathlib.Core.Option.{Option, none, some}
+use Prim.Native.Nat.{ℕ, _+_, _-_, _*_, _/_, _%_}
+use lib.Dec.{eqb, leb, ltb}
+use lib.ListN.{length, getD, take, drop, replicate}
+use Rattle.paper.specs.Choice.{if_then_else_}
+use Rattle.paper.specs.Settings.{Size}
+use Rattle.paper.specs.Transmitter.{load, turn, cts, special}
+use Rattle.paper.specs.Channel.{arrive, read, settings, reset, state, line}
+use Rattle.paper.specs.Card.{Card, freshCard, Call, on, pick, Done, step}
+use Rattle.paper.specs.declared.Why.{Why}
+use Rattle.paper.specs.declared.Why.the-variants.{FlowSwallowed, DamagedDiscarded, BreakIgnored, EndingDiscarded}
+use Rattle.paper.specs.declared.Fate.{Fate}
+use Rattle.paper.specs.declared.Fate.the-variants.{Stored, Nothing, Lost}
+use Rattle.paper.specs.declared.Refusal.{Refusal}
+use Rattle.paper.specs.declared.Refusal.the-variants.{BadChannel, BadKind, TooMany, NoRoom, BadField, BadSpecial, SpecialWaits, BrokenStream, ShortOutput, BadCts, BadLine}
+use Rattle.paper.specs.declared.Answer.{Answer}
+use Rattle.paper.specs.declared.Answer.the-variants as answers
+
+-- THE PAPER'S NUMBERS FOR EACH ANSWER
+
+-- "Refusal numbers"; "5 is followed by its field", 8 by "the place of the offending FF"
+abbrev pub refusalNumbers : Refusal → List ℕ
+refusalNumbers BadChannel = 1 ∷ []
+refusalNumbers BadKind = 2 ∷ []
+refusalNumbers TooMany = 3 ∷ []
+refusalNumbers NoRoom = 4 ∷ []
+refusalNumbers (BadField field) = 5 ∷ field ∷ []
+refusalNumbers BadSpecial = 6 ∷ []
+refusalNumbers SpecialWaits = 7 ∷ []
+refusalNumbers (BrokenStream place) = 8 ∷ place ∷ []
+refusalNumbers ShortOutput = 9 ∷ []
+refusalNumbers BadCts = 10 ∷ []
+refusalNumbers BadLine = 11 ∷ []
+
+-- "0 stored, 1 nothing to store, 2 lost"
+abbrev pub fateNumber : Fate → ℕ
+fateNumber Stored = 0
+fateNumber (Nothing why) = 1
+fateNumber Lost = 2
+
+-- "Answers begin with 00 or the refusal number (5 is followed by its field), then: fate; or characters, flagged, bytes; or taken; or 00, or 01
+-- and the byte sent; or the channel picked, FF for none; or waiting, transmit waiting, stopped, loss high, loss low. Served frames 05, 06, 07
+-- and 09 answer 00 alone." lent: the bytes lent to a read, as it left them
+abbrev pub numbers : Answer → (lent : List ℕ) → List ℕ
+numbers (answers.Refused r) lent = refusalNumbers r
+numbers (answers.Fated f) lent = 0x00 ∷ fateNumber f ∷ []
+numbers (answers.Handed characters flagged bytes) lent = 0x00 ∷ characters ∷ flagged ∷ take bytes lent
+numbers (answers.Took n) lent = 0x00 ∷ n ∷ []
+numbers answers.Silent lent = 0x00 ∷ 0x00 ∷ []
+numbers (answers.Sent b) lent = 0x00 ∷ 0x01 ∷ b ∷ []
+numbers answers.Done lent = 0x00 ∷ []
+numbers (answers.Shown waiting sending stopped losses) lent =
+    0x00 ∷ waiting ∷ sending ∷ (if stopped then 1 else 0) ∷ losses / 256 ∷ losses % 256 ∷ []
+numbers (answers.Picked n) lent = 0x00 ∷ n ∷ []
+numbers answers.NoneReady lent = 0x00 ∷ 0xFF ∷ []
+
+-- FRAMES
+
+-- the frame begins with a byte, and has so many bytes
+abbrev pub is : List ℕ → (first long : ℕ) → Bool
+is f first long = eqb (getD f 0 0) first && eqb (length f) long
+
+-- the frame begins with a byte, and a channel and any bytes follow
+abbrev pub opens : List ℕ → (first : ℕ) → Bool
+opens f first = eqb (getD f 0 0) first && leb 2 (length f)
+
+-- "01 channel kind byte; 02 channel n (lent 36 bytes, place 0); 03 channel and 0 to 32 bytes; 04 channel (turn); 05 channel CTS; 06 channel
+-- special; 07 channel and 0 to 32 bytes of settings ...; 08 (pick); 09 channel (reset); 0A channel (state)"
+unfoldable pub callOf : Size → List ℕ → Option Call
+callOf z f =
+    let channel = getD f 1 0 in
+    if is f 0x01 4 then some (on channel (arrive (getD f 2 0) (getD f 3 0))) else
+    if is f 0x02 3 then some (on channel (read (getD f 2 0) 0 (replicate (3 * z .most) 0))) else
+    if opens f 0x03 then some (on channel (line (load (drop 2 f)))) else
+    if is f 0x04 2 then some (on channel (line turn)) else
+    if is f 0x05 3 then some (on channel (line (cts (getD f 2 0)))) else
+    if is f 0x06 3 then some (on channel (line (special (getD f 2 0)))) else
+    if opens f 0x07 then some (on channel (settings (drop 2 f))) else
+    if is f 0x08 1 then some pick else
+    if is f 0x09 2 then some (on channel reset) else
+    if is f 0x0A 2 then some (on channel state) else
+    none
+
+-- HEXADECIMAL
+
+abbrev pub between : ℕ → ℕ → ℕ → Bool
+between low high c = leb low c && leb c high
+
+-- the value of a digit ("either letter case"): 0 to 9 are the characters 48 to 57, A to F 65 to 70, a to f 97 to 102
+unfoldable pub digit : ℕ → Option ℕ
+digit c =
+    if between 48 57 c then some (c - 48) else
+    if between 65 70 c then some (c - 55) else
+    if between 97 102 c then some (c - 87) else
+    none
+
+abbrev pub joined : Option ℕ → Option ℕ → Option (List ℕ) → Option (List ℕ)
+joined (some high) (some low) (some bytes) = some ((high * 16 + low) ∷ bytes)
+joined (some high) (some low) none = none
+joined (some high) none bytes = none
+joined none low bytes = none
+
+-- two digits a byte; none for "a character that is no hexadecimal digit, an odd count of digits"
+abbrev pub bytesOf : List ℕ → Option (List ℕ)
+bytesOf [] = some []
+bytesOf (a ∷ []) = none
+bytesOf (a ∷ b ∷ text) = joined (digit a) (digit b) (bytesOf text)
+
+-- "one line of hexadecimal in capitals"
+abbrev pub capital : ℕ → ℕ
+capital d = if ltb d 10 then d + 48 else d + 55
+
+abbrev pub hexadecimal : List ℕ → List ℕ
+hexadecimal [] = []
+hexadecimal (b ∷ bytes) = capital (b / 16) ∷ capital (b % 16) ∷ hexadecimal bytes
+
+-- THE PROGRAM
+
+abbrev pub frameCall : Size → Option (List ℕ) → Option Call
+frameCall z none = none
+frameCall z (some f) = callOf z f
+
+-- "at most 34 bytes"
+unfoldable pub lineCall : Size → List ℕ → Option Call
+lineCall z text = if ltb 68 (length text) then none else frameCall z (bytesOf text)
+
+abbrev pub newline : ℕ
+newline = 10
+
+-- A line's answer, and the card after it
+pub record Reply : Type 0 where
+  pub text : List ℕ
+  pub next : Card Unit
+
+abbrev pub answered : Done Unit → Reply
+answered d = record { text = hexadecimal (numbers (d .answer) (d .lent)) ++ newline ∷ []; next = d .next }
+
+-- "A line that 11 refuses makes no call, so in the program 11 comes before all others."
+abbrev pub replied : Size → Card Unit → Option Call → Reply
+replied z K none = answered (record { answer = answers.Refused BadLine; next = K; lent = [] })
+replied z K (some c) = answered (step z tt K c)
+
+abbrev pub reply : Size → Card Unit → List ℕ → Reply
+reply z K text = replied z K (lineCall z text)
+
+-- one more character in front of the first line
+abbrev pub grown : ℕ → List (List ℕ) → List (List ℕ)
+grown b [] = (b ∷ []) ∷ []
+grown b (l ∷ ls) = (b ∷ l) ∷ ls
+
+-- the lines of a text: "A last line without its newline counts; empty input prints nothing"
+abbrev pub lines : List ℕ → List (List ℕ)
+lines [] = []
+lines (b ∷ text) = if eqb b newline then [] ∷ lines text else grown b (lines text)
+
+-- "prints one line ... for each"
+abbrev pub replies : Size → Card Unit → List (List ℕ) → List ℕ
+replies z K [] = []
+replies z K (l ∷ ls) = reply z K l .text ++ replies z (reply z K l .next) ls
+
+abbrev pub program : Size → List ℕ → List ℕ
+program z input = replies z freshCard (lines input)

@@ -1,0 +1,11 @@
+pub mod Choice
+pub mod Settings
+pub mod Arrival
+pub mod Queue
+pub mod Stream
+pub mod Transmitter
+pub mod Channel
+pub mod Card
+pub mod Run
+pub mod Bounds
+pub mod Frames
