@@ -10,7 +10,7 @@ use Rattle.paper.specs.Settings.{Size, twelve, freshBytes}
 use Rattle.paper.specs.Queue.{oldest, itemsOf, flags}
 use Rattle.paper.specs.Stream.{Character, images, sort, byte, front, Decoded, decode, cleanFront}
 use Rattle.paper.specs.Channel.{Channel, fresh, ChannelCall, arrive, read, settings, reset, state, lent, written, channelStep}
-use Rattle.paper.specs.Card.{Card, freshCard, Call, on, pick, Done, step, at, ready}
+use Rattle.paper.specs.Card.{Card, freshCard, Call, on, pick, step, at, ready}
 use Rattle.paper.specs.Run.{Named, Moment, run, end, nameless}
 use Rattle.paper.specs.Bounds.{Sound}
 use Rattle.paper.specs.Frames.{lineCall, Reply, reply, program}
@@ -166,7 +166,7 @@ ReadingMore =
 
 -- names, and so the numbering, change no answer and no lent byte
 abbrev pub told : {A : Type 0} → Moment A → Answer × List ℕ
-told m = (m .done .answer, m .done .lent)
+told m = (m .gave .answer, m .gave .lent)
 
 abbrev pub NamesUnseen : Type 1
 NamesUnseen =
@@ -204,7 +204,7 @@ lentBy (on n c) = lent c
 lentBy pick = []
 
 -- "refused by a fixed number, with the card and all lent bytes unchanged"; "No refusal is given outside these conditions"
-pub record Refusals : Type 2 where
+pub record Refusals : Type 1 where
   pub unchanged : (A : Type 0) (z : Size) (a : A) (K : Card A) (c : Call)
       → let d = step z a K c in
       isRefused (d .answer) ≡ true → (d .next ≡ K) × (d .lent ≡ lentBy c)

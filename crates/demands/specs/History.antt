@@ -122,7 +122,7 @@ module _ {A : Type 0} where
   abbrev pub onPort : ℕ → Moment A → Call → List (Entry A)
   onPort n m (on k c) =
       if eqb k n
-      then record { before = at (m .before) n; by = record { name = m .by .name; call = c }; answer = m .done .answer; lent = m .done .lent } ∷ []
+      then record { before = at (m .before) n; by = record { name = m .by .name; call = c }; answer = m .gave .answer; lent = m .gave .lent } ∷ []
       else []
   onPort n m pick = []
 

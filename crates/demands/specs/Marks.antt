@@ -5,7 +5,7 @@ use mathlib.Core.List.{List, [], map}
 use Prim.Native.Nat.{ℕ}
 use lib.Dec.{eqb}
 use Rattle.paper.specs.Choice.{if_then_else_}
-use Rattle.paper.specs.Stream.{Character, good, damaged, images, read}
+use Rattle.paper.specs.Stream.{Character, good, damaged, images, readout}
 use Rattle.paper.specs.declared.Item.{Item}
 use Rattle.paper.specs.declared.Item.the-variants.{Plain, Doubled, Damaged}
 
@@ -26,4 +26,4 @@ stream cs = images (map markedItem cs)
 
 -- the reader accepts s, and gives the characters cs
 abbrev pub Accepts : List ℕ → List Character → Type 0
-Accepts s cs = read s ≡ record { characters = cs; rest = [] }
+Accepts s cs = readout s ≡ record { characters = cs; rest = [] }

@@ -6,11 +6,11 @@ use Prim.Native.Nat.{ℕ, _+_, _%_}
 use lib.Dec.{leb, ltb}
 use lib.ListN.{length, getD, set}
 use Rattle.paper.specs.Choice.{if_then_else_}
+use Rattle.paper.specs.Given.{Given, given, refused}
 use Rattle.paper.specs.Settings.{Size}
-use Rattle.paper.specs.Channel.{Channel, fresh, ChannelCall, lent, Given, channelStep}
+use Rattle.paper.specs.Channel.{Channel, fresh, ChannelCall, lent, channelStep}
 use Rattle.paper.specs.declared.Refusal.the-variants.{BadChannel}
-use Rattle.paper.specs.declared.Answer.{Answer}
-use Rattle.paper.specs.declared.Answer.the-variants.{Refused, Picked, NoneReady}
+use Rattle.paper.specs.declared.Answer.the-variants.{Picked, NoneReady}
 
 -- place: the channel last named by a pick
 pub record Card (A : Type 0) : Type 0 where
@@ -24,12 +24,6 @@ freshCard = record { channels = fresh ∷ fresh ∷ fresh ∷ fresh ∷ []; plac
 pub data Call : Type 0 where
   on : (channel : ℕ) → ChannelCall → Call
   pick : Call
-
--- What a call gives: the answer, the card after it, and what the lent bytes then are
-pub record Done (A : Type 0) : Type 0 where
-  pub answer : Answer
-  pub next : Card A
-  pub lent : List ℕ
 
 -- "after the last named one, going round 0 to 3"
 abbrev pub round : ℕ → List ℕ
@@ -51,19 +45,19 @@ module _ {A : Type 0} where
   firstReady K (n ∷ ns) = if ready K n then some n else firstReady K ns
 
   -- "None: says so, and the place stays."
-  abbrev pub named : Card A → Option ℕ → Done A
-  named K none = record { answer = NoneReady; next = K; lent = [] }
-  named K (some n) = record { answer = Picked n; next = record { channels = K .channels; place = n }; lent = [] }
+  abbrev pub pickedAs : Card A → Option ℕ → Given (Card A)
+  pickedAs K none = given NoneReady K []
+  pickedAs K (some n) = given (Picked n) (record { channels = K .channels; place = n }) []
 
   -- "Pick: the first channel after the last named one ..."
-  unfoldable pub picked : Card A → Done A
-  picked K = named K (firstReady K (round (K .place)))
+  unfoldable pub picked : Card A → Given (Card A)
+  picked K = pickedAs K (firstReady K (round (K .place)))
 
-  abbrev pub put : Card A → ℕ → Given A → Done A
-  put K n g = record { answer = g .answer; next = with K n (g .next); lent = g .lent }
+  abbrev pub put : Card A → ℕ → Given (Channel A) → Given (Card A)
+  put K n g = given (g .answer) (with K n (g .next)) (g .lent)
 
   -- ONE CALL, refusal 1 ("channel above 3") first; a is the name of what it may store
-  unfoldable pub step : Size → A → Card A → Call → Done A
+  unfoldable pub step : Size → A → Card A → Call → Given (Card A)
   step z a K (on n c) =
-      if ltb 3 n then record { answer = Refused BadChannel; next = K; lent = lent c } else put K n (channelStep z a (at K n) c)
+      if ltb 3 n then refused BadChannel K (lent c) else put K n (channelStep z a (at K n) c)
   step z a K pick = picked K

@@ -6,18 +6,18 @@ use Prim.Native.Nat.{ℕ, _+_, _*_}
 use lib.Dec.{ltb}
 use lib.ListN.{length, take, drop}
 use Rattle.paper.specs.Choice.{if_then_else_}
+use Rattle.paper.specs.Given.{Given, given, refused}
 use Rattle.paper.specs.Settings.{Size, settingsOf, freshSettings, badField}
 use Rattle.paper.specs.Arrival.{arrival}
 use Rattle.paper.specs.Queue.{Slot, Queue, place, oldest, removed, itemsOf, flags}
 use Rattle.paper.specs.Stream.{images}
-use Rattle.paper.specs.Transmitter.{Transmitter, freshTransmitter, LineCall, load, turn, cts, special, lineStep}
+use Rattle.paper.specs.Transmitter.{Transmitter, freshTransmitter, LineCall, lineLent, lineStep}
 use Rattle.paper.specs.declared.Settings.{Settings}
 use Rattle.paper.specs.declared.Flags.{Flags}
 use Rattle.paper.specs.declared.Outcome.{Outcome}
-use Rattle.paper.specs.declared.Refusal.{Refusal}
 use Rattle.paper.specs.declared.Refusal.the-variants.{BadKind, TooMany, NoRoom, BadField}
 use Rattle.paper.specs.declared.Answer.{Answer}
-use Rattle.paper.specs.declared.Answer.the-variants.{Refused, Fated, Handed, Done, Shown}
+use Rattle.paper.specs.declared.Answer.the-variants.{Fated, Handed, Done, Shown}
 
 -- "Each has settings, a receive queue ..., a transmit queue ..., and small flags."
 pub record Channel (A : Type 0) : Type 0 where
@@ -44,12 +44,6 @@ pub data ChannelCall : Type 0 where
   line : LineCall → ChannelCall
 
 -- The bytes that a call is lent
-abbrev pub lineLent : LineCall → List ℕ
-lineLent (load l) = l
-lineLent turn = []
-lineLent (cts v) = []
-lineLent (special n) = []
-
 abbrev pub lent : ChannelCall → List ℕ
 lent (arrive k b) = []
 lent (read n place buffer) = buffer
@@ -57,12 +51,6 @@ lent (settings l) = l
 lent reset = []
 lent state = []
 lent (line c) = lineLent c
-
--- What a call gives: the answer, the channel after it, and what the lent bytes then are
-pub record Given (A : Type 0) : Type 0 where
-  pub answer : Answer
-  pub next : Channel A
-  pub lent : List ℕ
 
 -- "Everything before the place and after the last written byte stays."
 abbrev pub written : List ℕ → (place : ℕ) → List ℕ → List ℕ
@@ -73,21 +61,14 @@ unfoldable pub noRoom : (n place : ℕ) → List ℕ → Bool
 noRoom n place buffer = ltb (length buffer) place || ltb (length buffer) (place + 3 * n)
 
 module _ {A : Type 0} where
-  abbrev pub given : Answer → Channel A → List ℕ → Given A
-  given a h l = record { answer = a; next = h; lent = l }
-
-  -- "A refusal changes nothing"
-  abbrev pub refused : Refusal → Channel A → List ℕ → Given A
-  refused r h l = given (Refused r) h l
-
   -- "The item is fixed at arrival". "Flags of steps 1 to 6 change even when the item is lost."
-  abbrev pub arrived : Size → A → Channel A → Outcome → Given A
+  abbrev pub arrived : Size → A → Channel A → Outcome → Given (Channel A)
   arrived z a h o =
       let p = place (z .depth) a (o .ruling) (h .queue) in
       given (Fated (p .fate)) (record { settings = h .settings; flags = o .flags; queue = p .queue; transmitter = h .transmitter }) []
 
   -- "Answers the characters removed, how many had the overrun flag, and the bytes written."
-  abbrev pub handedOver : Channel A → (n place : ℕ) → List ℕ → Given A
+  abbrev pub handedOver : Channel A → (n place : ℕ) → List ℕ → Given (Channel A)
   handedOver h n place buffer =
       let out = oldest n (h .queue) in
       let bytes = images (itemsOf out) in
@@ -98,7 +79,7 @@ module _ {A : Type 0} where
 
   -- "Taking settings clears the literal mark and sets the transmitter running. Queues, an owed NL, a waiting special, CTS and the loss count
   -- stay."
-  abbrev pub settingsTaken : Channel A → List ℕ → Option ℕ → Given A
+  abbrev pub settingsTaken : Channel A → List ℕ → Option ℕ → Given (Channel A)
   settingsTaken h l (some field) = refused (BadField field) h l
   settingsTaken h l none =
       given Done (record { settings = settingsOf l; flags = freshFlags; queue = h .queue; transmitter = h .transmitter }) l
@@ -108,7 +89,7 @@ module _ {A : Type 0} where
   shown h = Shown (length (h .queue .slots)) (length (h .transmitter .bytes)) (not (h .flags .running)) (h .queue .losses)
 
   -- ONE CALL ON A CHANNEL; a is the name of what it may store
-  unfoldable pub channelStep : Size → A → Channel A → ChannelCall → Given A
+  unfoldable pub channelStep : Size → A → Channel A → ChannelCall → Given (Channel A)
   channelStep z a h (arrive kind b) =
       if ltb 3 kind then refused BadKind h [] else arrived z a h (arrival (h .settings) (h .flags) kind b)
   channelStep z a h (read n place buffer) =
@@ -120,4 +101,4 @@ module _ {A : Type 0} where
   channelStep z a h state = given (shown h) h []
   channelStep z a h (line c) =
       let t = lineStep (h .settings) (h .flags) (h .transmitter) c in
-      given (t .answer) (record { settings = h .settings; flags = h .flags; queue = h .queue; transmitter = t .next }) (lineLent c)
+      given (t .answer) (record { settings = h .settings; flags = h .flags; queue = h .queue; transmitter = t .next }) (t .lent)

@@ -6,10 +6,11 @@ use Prim.Native.Nat.{ℕ, _+_, _-_, _*_, _/_, _%_}
 use lib.Dec.{eqb, leb, ltb}
 use lib.ListN.{length, getD, take, drop, replicate}
 use Rattle.paper.specs.Choice.{if_then_else_}
+use Rattle.paper.specs.Given.{Given, refused}
 use Rattle.paper.specs.Settings.{Size}
 use Rattle.paper.specs.Transmitter.{load, turn, cts, special}
 use Rattle.paper.specs.Channel.{arrive, read, settings, reset, state, line}
-use Rattle.paper.specs.Card.{Card, freshCard, Call, on, pick, Done, step}
+use Rattle.paper.specs.Card.{Card, freshCard, Call, on, pick, step}
 use Rattle.paper.specs.declared.Why.{Why}
 use Rattle.paper.specs.declared.Why.the-variants.{FlowSwallowed, DamagedDiscarded, BreakIgnored, EndingDiscarded}
 use Rattle.paper.specs.declared.Fate.{Fate}
@@ -135,12 +136,12 @@ pub record Reply : Type 0 where
   pub text : List ℕ
   pub next : Card Unit
 
-abbrev pub answered : Done Unit → Reply
-answered d = record { text = hexadecimal (numbers (d .answer) (d .lent)) ++ newline ∷ []; next = d .next }
+abbrev pub answered : Given (Card Unit) → Reply
+answered g = record { text = hexadecimal (numbers (g .answer) (g .lent)) ++ newline ∷ []; next = g .next }
 
 -- "A line that 11 refuses makes no call, so in the program 11 comes before all others."
 abbrev pub replied : Size → Card Unit → Option Call → Reply
-replied z K none = answered (record { answer = answers.Refused BadLine; next = K; lent = [] })
+replied z K none = answered (refused BadLine K [])
 replied z K (some c) = answered (step z tt K c)
 
 abbrev pub reply : Size → Card Unit → List ℕ → Reply

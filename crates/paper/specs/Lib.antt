@@ -1,4 +1,5 @@
 pub mod Choice
+pub mod Given
 pub mod Settings
 pub mod Arrival
 pub mod Queue

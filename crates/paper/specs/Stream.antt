@@ -28,7 +28,7 @@ pub data Character : Type 0 where
   damaged : ℕ → Character
 
 -- What the reader makes of a stream: the characters up to the first broken FF, and what stands from that FF on (nothing, where none is broken)
-pub record Read : Type 0 where
+pub record Readout : Type 0 where
   pub characters : List Character
   pub rest : List ℕ
 
@@ -38,14 +38,14 @@ pub data Open : Type 0 where
   mark : Open
   markZero : Open
 
-abbrev pub first : Character → Read → Read
+abbrev pub first : Character → Readout → Readout
 first c r = record { characters = c ∷ r .characters; rest = r .rest }
 
-abbrev pub stop : List ℕ → Read
+abbrev pub stop : List ℕ → Readout
 stop rest = record { characters = []; rest = rest }
 
 -- "FF FF is good FF; FF 00 x is damaged x; any other byte but FF is a good byte. FF before any other byte, or cut off at the end, is broken"
-abbrev pub readOn : Open → List ℕ → Read
+abbrev pub readOn : Open → List ℕ → Readout
 readOn nothing [] = stop []
 readOn mark [] = stop (0xFF ∷ [])
 readOn markZero [] = stop (0xFF ∷ 0x00 ∷ [])
@@ -56,8 +56,8 @@ readOn mark (b ∷ s) =
     stop (0xFF ∷ b ∷ s)
 readOn markZero (b ∷ s) = first (damaged b) (readOn nothing s)
 
-abbrev pub read : List ℕ → Read
-read s = readOn nothing s
+abbrev pub readout : List ℕ → Readout
+readout s = readOn nothing s
 
 -- "0 good or 1 damaged; the byte"
 abbrev pub sort : Character → ℕ
@@ -89,7 +89,7 @@ unfoldable pub decode : List ℕ → List ℕ → List ℕ → Decoded
 decode s sorts bytes =
     if ltb (length sorts) (length s) || ltb (length bytes) (length s)
     then record { answer = Unread ShortOutput; sorts = sorts; bytes = bytes }
-    else decodedAs s sorts bytes (read s .characters) (read s .rest)
+    else decodedAs s sorts bytes (readout s .characters) (readout s .rest)
 
 -- "the front of a stream up to its first FF ... it may be empty or all"
 unfoldable pub cleanFront : List ℕ → List ℕ

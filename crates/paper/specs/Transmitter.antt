@@ -6,12 +6,12 @@ use Prim.Native.Nat.{ℕ, _-_, min}
 use lib.Dec.{eqb, ltb}
 use lib.ListN.{length, take, getD}
 use Rattle.paper.specs.Choice.{if_then_else_}
+use Rattle.paper.specs.Given.{Given, given, refused}
 use Rattle.paper.specs.Arrival.{CR, NL}
 use Rattle.paper.specs.declared.Settings.{Settings}
 use Rattle.paper.specs.declared.Flags.{Flags}
 use Rattle.paper.specs.declared.Refusal.the-variants.{BadSpecial, SpecialWaits, BadCts}
-use Rattle.paper.specs.declared.Answer.{Answer}
-use Rattle.paper.specs.declared.Answer.the-variants.{Refused, Took, Silent, Sent, Done}
+use Rattle.paper.specs.declared.Answer.the-variants.{Took, Silent, Sent, Done}
 
 -- The bytes that wait to be sent, an owed NL, a waiting special character, and CTS
 pub record Transmitter : Type 0 where
@@ -34,31 +34,30 @@ pub data LineCall : Type 0 where
   cts : ℕ → LineCall
   special : ℕ → LineCall
 
--- What a call answers, and the transmitter after it
-pub record Turned : Type 0 where
-  pub answer : Answer
-  pub next : Transmitter
-
-abbrev pub turned : Answer → Transmitter → Turned
-turned a t = record { answer = a; next = t }
+-- The bytes that a call is lent
+abbrev pub lineLent : LineCall → List ℕ
+lineLent (load l) = l
+lineLent turn = []
+lineLent (cts v) = []
+lineLent (special n) = []
 
 -- "Load: takes the first min(length, room) bytes; answers that number."
-unfoldable pub loaded : Transmitter → List ℕ → Turned
+unfoldable pub loaded : Transmitter → List ℕ → Given Transmitter
 loaded t l =
     let room = transmitDepth - length (t .bytes) in
-    turned (Took (min (length l) room)) (record { bytes = t .bytes ++ take room l; owed = t .owed; special = t .special; cts = t .cts })
+    given (Took (min (length l) room)) (record { bytes = t .bytes ++ take room l; owed = t .owed; special = t .special; cts = t .cts }) l
 
 -- "With field 10, a queued NL goes out as CR, leaves the queue and owes an NL."
-abbrev pub sends : Settings → Transmitter → ℕ → List ℕ → Turned
+abbrev pub sends : Settings → Transmitter → ℕ → List ℕ → Given Transmitter
 sends s t b rest =
     if eqb (s .expand) 1 && eqb b NL
-    then turned (Sent CR) (record { bytes = rest; owed = true; special = t .special; cts = t .cts })
-    else turned (Sent b) (record { bytes = rest; owed = false; special = t .special; cts = t .cts })
+    then given (Sent CR) (record { bytes = rest; owed = true; special = t .special; cts = t .cts }) []
+    else given (Sent b) (record { bytes = rest; owed = false; special = t .special; cts = t .cts }) []
 
 -- "Else an owed NL; else the head of the queue; else nothing." "An owed NL is sent even if field 10 was since turned off."
-abbrev pub sendNext : Settings → Transmitter → (owed : Bool) → (queue : List ℕ) → Turned
-sendNext s t true queue = turned (Sent NL) (record { bytes = queue; owed = false; special = t .special; cts = t .cts })
-sendNext s t false [] = turned Silent t
+abbrev pub sendNext : Settings → Transmitter → (owed : Bool) → (queue : List ℕ) → Given Transmitter
+sendNext s t true queue = given (Sent NL) (record { bytes = queue; owed = false; special = t .special; cts = t .cts }) []
+sendNext s t false [] = given Silent t []
 sendNext s t false (b ∷ rest) = sends s t b rest
 
 -- "nothing goes if stopped, or if field 9 is 1 and CTS is 0"
@@ -66,24 +65,24 @@ abbrev pub held : Settings → Flags → Transmitter → Bool
 held s f t = not (f .running) || (eqb (s .hold) 1 && not (t .cts))
 
 -- "A waiting special goes first, even when stopped or CTS is 0, even between CR and its NL."
-abbrev pub turnedWith : Settings → Flags → Transmitter → Option ℕ → Turned
-turnedWith s f t (some b) = turned (Sent b) (record { bytes = t .bytes; owed = t .owed; special = none; cts = t .cts })
-turnedWith s f t none = if held s f t then turned Silent t else sendNext s t (t .owed) (t .bytes)
+abbrev pub turned : Settings → Flags → Transmitter → Option ℕ → Given Transmitter
+turned s f t (some b) = given (Sent b) (record { bytes = t .bytes; owed = t .owed; special = none; cts = t .cts }) []
+turned s f t none = if held s f t then given Silent t [] else sendNext s t (t .owed) (t .bytes)
 
 -- "Special s from 1 to 4: the present special character s waits for the next turn."
 abbrev pub specialCharacter : Settings → ℕ → ℕ
 specialCharacter s n = getD (s .xon ∷ s .xoff ∷ s .third ∷ s .fourth ∷ []) (n - 1) 0
 
 -- refusal 7, "a special already waits"
-abbrev pub waitsAs : Settings → Transmitter → ℕ → Option ℕ → Turned
-waitsAs s t n (some b) = turned (Refused SpecialWaits) t
-waitsAs s t n none = turned Done (record { bytes = t .bytes; owed = t .owed; special = some (specialCharacter s n); cts = t .cts })
+abbrev pub specialTaken : Settings → Transmitter → ℕ → Option ℕ → Given Transmitter
+specialTaken s t n (some b) = refused SpecialWaits t []
+specialTaken s t n none = given Done (record { bytes = t .bytes; owed = t .owed; special = some (specialCharacter s n); cts = t .cts }) []
 
 -- refusals 6, "special not 1 to 4", and 10, "CTS neither 0 nor 1"
-unfoldable pub lineStep : Settings → Flags → Transmitter → LineCall → Turned
+unfoldable pub lineStep : Settings → Flags → Transmitter → LineCall → Given Transmitter
 lineStep s f t (load l) = loaded t l
-lineStep s f t turn = turnedWith s f t (t .special)
+lineStep s f t turn = turned s f t (t .special)
 lineStep s f t (cts v) =
-    if ltb 1 v then turned (Refused BadCts) t else
-    turned Done (record { bytes = t .bytes; owed = t .owed; special = t .special; cts = eqb v 1 })
-lineStep s f t (special n) = if ltb n 1 || ltb 4 n then turned (Refused BadSpecial) t else waitsAs s t n (t .special)
+    if ltb 1 v then refused BadCts t [] else
+    given Done (record { bytes = t .bytes; owed = t .owed; special = t .special; cts = eqb v 1 }) []
+lineStep s f t (special n) = if ltb n 1 || ltb 4 n then refused BadSpecial t [] else specialTaken s t n (t .special)
