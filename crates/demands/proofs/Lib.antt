@@ -1,1 +1,9 @@
 pub mod WholeCase
+pub mod Choices
+pub mod Cases
+pub mod Port
+pub mod Since
+pub mod Fifo
+pub mod Reader
+pub mod Lines
+pub mod ReadBack

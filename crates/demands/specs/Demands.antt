@@ -13,7 +13,7 @@ use Rattle.paper.specs.Channel.{Channel, fresh, ChannelCall, arrive, read, sett
 use Rattle.paper.specs.Card.{Card, freshCard, Call, on, pick, step, at, ready}
 use Rattle.paper.specs.Run.{Named, Moment, run, end, nameless}
 use Rattle.paper.specs.Bounds.{Sound}
-use Rattle.paper.specs.Frames.{lineCall, Reply, reply, program}
+use Rattle.paper.specs.Frames.{answered, reply, program}
 use Rattle.paper.specs.declared.Refusal.the-variants.{BrokenStream, ShortOutput}
 use Rattle.paper.specs.declared.Reading.the-variants.{Items, Unread}
 use Rattle.paper.specs.declared.Answer.{Answer}
@@ -210,11 +210,10 @@ pub record Refusals : Type 1 where
       isRefused (d .answer) ≡ true → (d .next ≡ K) × (d .lent ≡ lentBy c)
   pub exact : (A : Type 0) (z : Size) (a : A) (K : Card A) (c : Call) → FirstDue (conditions z K c) (step z a K c .answer)
 
--- "11 comes before all others": a line makes a call exactly if it spells a frame; any other answers 0B alone, and the card stays
+-- "A line that 11 refuses makes no call": a line that spells a frame is answered as its call, and any other by 0B alone
 pub record Lines : Type 0 where
-  pub calls : (z : Size) (line : List ℕ) (c : Call) → Calls z line c → lineCall z line ≡ some c
-  pub called : (z : Size) (line : List ℕ) (c : Call) → lineCall z line ≡ some c → Calls z line c
-  pub refused : (z : Size) (K : Card Unit) (line : List ℕ) → lineCall z line ≡ none → reply z K line ≡ record { text = text "0B\n"; next = K }
+  pub called : (z : Size) (K : Card Unit) (line : List ℕ) (c : Call) → Calls z line c → reply z K line ≡ answered (step z tt K c)
+  pub refused : (z : Size) (K : Card Unit) (line : List ℕ) → ((c : Call) → ¬ Calls z line c) → reply z K line ≡ record { text = text "0B\n"; next = K }
 
 -- BOUNDS
 

@@ -1,20 +1,23 @@
 -- 01, "Frame program": its table of frames, as the lines that make a call. Every other line is refusal 11.
-use mathlib.Core.Path.{_≡_}
 use mathlib.Core.List.{List, [], _∷_}
-use mathlib.Core.Option.{some}
-use Prim.Native.Nat.{ℕ, _+_, _*_, _≤_}
+use Prim.Native.Nat.{ℕ, _+_, _*_, _≤_, _<_}
 use lib.ListN.{length, replicate}
 use Rattle.paper.specs.Settings.{Size}
 use Rattle.paper.specs.Transmitter.{load, turn, cts, special}
 use Rattle.paper.specs.Channel.{arrive, read, settings, reset, state, line}
 use Rattle.paper.specs.Card.{Call, on, pick}
-use Rattle.paper.specs.Frames.{digit}
+
+-- a hexadecimal digit, "either letter case", and its value: 0 is the character 48, A 65 and a 97
+pub data Digit : (character value : ℕ) → Type 0 where
+  figure : (v : ℕ) → v < 10 → Digit (48 + v) v
+  capital : (v : ℕ) → v < 6 → Digit (65 + v) (10 + v)
+  small : (v : ℕ) → v < 6 → Digit (97 + v) (10 + v)
 
 -- a text that spells bytes, two digits each
 pub data Spells : (text bytes : List ℕ) → Type 0 where
   empty : Spells [] []
   byte : {a b high low : ℕ} {text bytes : List ℕ}
-      → digit a ≡ some high → digit b ≡ some low → Spells text bytes → Spells (a ∷ b ∷ text) ((high * 16 + low) ∷ bytes)
+      → Digit a high → Digit b low → Spells text bytes → Spells (a ∷ b ∷ text) ((high * 16 + low) ∷ bytes)
 
 -- "Frames: 01 channel kind byte; ..."
 pub data Frame (z : Size) : List ℕ → Call → Type 0 where

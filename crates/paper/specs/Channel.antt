@@ -54,7 +54,7 @@ lent (line c) = lineLent c
 
 -- "Everything before the place and after the last written byte stays."
 abbrev pub written : List ℕ → (place : ℕ) → List ℕ → List ℕ
-written buffer place xs = take place buffer ++ xs ++ drop (place + length xs) buffer
+written buffer place xs = take place buffer ++ (xs ++ drop (place + length xs) buffer)
 
 -- "fewer than 3n bytes from the place to the buffer's end, or the place beyond the end"
 unfoldable pub noRoom : (n place : ℕ) → List ℕ → Bool

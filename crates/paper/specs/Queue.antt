@@ -45,13 +45,14 @@ module _ {A : Type 0} where
   abbrev pub overrun : Queue A → Queue A
   overrun q = record { slots = flagNewest (q .slots); losses = min (suc (q .losses)) 65535 }
 
+  abbrev pub placeItem : (room : Bool) → Item → A → Queue A → Placed A
+  placeItem true i a q = record { fate = Stored; queue = stored i a q }
+  placeItem false i a q = record { fate = Lost; queue = overrun q }
+
   -- "If 12 items wait, the new one is lost"
   abbrev pub place : (depth : ℕ) → A → Ruling → Queue A → Placed A
   place depth a (StoreNothing w) q = record { fate = Nothing w; queue = q }
-  place depth a (Store i) q =
-      if ltb (length (q .slots)) depth
-      then record { fate = Stored; queue = stored i a q }
-      else record { fate = Lost; queue = overrun q }
+  place depth a (Store i) q = placeItem (ltb (length (q .slots)) depth) i a q
 
   -- "removes the oldest min(n, waiting) items"
   abbrev pub oldest : ℕ → Queue A → List (Slot A)

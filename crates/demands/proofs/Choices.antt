@@ -1,0 +1,24 @@
+-- What holds of both sides of a choice holds of the choice; each side may use what the tests said.
+use mathlib.Core.Path.{_≡_, refl}
+use mathlib.Core.Bool.{Bool, true, false, _&&_, _||_}
+use Rattle.paper.specs.Choice.{if_then_else_}
+
+module _ {A : Type 0} (P : A → Type 0) where
+  pub chosen : (t : Bool) {a b : A} → (t ≡ true → P a) → (t ≡ false → P b) → P (if t then a else b)
+  chosen true passed failed = passed refl
+  chosen false passed failed = failed refl
+
+  pub chosen-or : (t u : Bool) {a b : A} → (t ≡ true → P a) → (u ≡ true → P a) → (t ≡ false → u ≡ false → P b) → P (if t || u then a else b)
+  chosen-or true u first second failed = first refl
+  chosen-or false u first second failed = chosen u second (failed refl)
+
+  pub chosen-and : (t u : Bool) {a b : A} → (t ≡ true → u ≡ true → P a) → P b → P (if t && u then a else b)
+  chosen-and true u passed failed = chosen u (passed refl) (λ _. failed)
+  chosen-and false u passed failed = failed
+
+-- both sides alike, whatever the test says
+pub either : {A : Type 0} (P : A → Type 0) (t : Bool) {a b : A} → P a → P b → P (if t then a else b)
+either P t p q = chosen P t (λ _. p) (λ _. q)
+
+pub same : {A : Type 0} (t : Bool) (a : A) → (if t then a else a) ≡ a
+same t a = either (λ b. b ≡ a) t refl refl
