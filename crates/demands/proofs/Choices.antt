@@ -3,7 +3,7 @@ use mathlib.Core.Path.{_≡_, refl}
 use mathlib.Core.Bool.{Bool, true, false, _&&_, _||_}
 use Rattle.paper.specs.Choice.{if_then_else_}
 
-module _ {A : Type 0} (P : A → Type 0) where
+module _ {ℓ} {A : Type 0} (P : A → Type ℓ) where
   pub chosen : (t : Bool) {a b : A} → (t ≡ true → P a) → (t ≡ false → P b) → P (if t then a else b)
   chosen true passed failed = passed refl
   chosen false passed failed = failed refl
@@ -16,9 +16,6 @@ module _ {A : Type 0} (P : A → Type 0) where
   chosen-and true u passed failed = chosen u (passed refl) (λ _. failed)
   chosen-and false u passed failed = failed
 
--- both sides alike, whatever the test says
-pub either : {A : Type 0} (P : A → Type 0) (t : Bool) {a b : A} → P a → P b → P (if t then a else b)
-either P t p q = chosen P t (λ _. p) (λ _. q)
-
-pub same : {A : Type 0} (t : Bool) (a : A) → (if t then a else a) ≡ a
-same t a = either (λ b. b ≡ a) t refl refl
+  -- whatever the test says
+  pub either : (t : Bool) {a b : A} → P a → P b → P (if t then a else b)
+  either t p q = chosen t (λ _. p) (λ _. q)

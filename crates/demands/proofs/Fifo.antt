@@ -26,6 +26,8 @@ use Rattle.paper.specs.declared.Fate.the-variants.{Stored, Nothing, Lost}
 use Rattle.paper.specs.declared.Answer.{Answer}
 use Rattle.demands.specs.History.{Entry, isReset, isRefused, asks, fateOf, handedBy, handed, itemOf, arrivalItem, lossNow, lossNext, storedAs, stored, lostOne, lost}
 use Rattle.demands.specs.Demands.{history, after, FirstInFirstOut, LossCount}
+use Rattle.demands.proofs.Choices.{either}
+use Rattle.demands.proofs.Placing.{Within, placed-within}
 use Rattle.demands.proofs.Cases.{Deed, refusal, arrival, reading, change, renewal, showing, sending, deed}
 use Rattle.demands.proofs.Port.{entryOf, entries, leaves, portCalls, history-is, after-is}
 use Rattle.demands.proofs.Since.{Steady, SteadyRun, since}
@@ -48,11 +50,6 @@ module _ {A : Type 0} where
   flag-twice (x ∷ y ∷ []) = refl
   flag-twice (x ∷ y ∷ w ∷ l) = ap (λ (r : List (Slot A)). x ∷ r) (flag-twice (y ∷ w ∷ l))
 
-  flag-length : (l : List (Slot A)) → length (flagNewest l) ≡ length l
-  flag-length [] = refl
-  flag-length (x ∷ []) = refl
-  flag-length (x ∷ y ∷ l) = ap suc (flag-length (y ∷ l))
-
   -- an arrival's ruling: what waits afterwards is what waited and what was stored; rest is stored later, t: a loss comes next
   placing : (d : ℕ) (a : A) (r : Ruling) (q : Queue A) (t : Bool) (rest : List (Slot A))
       → flaggedIf t (place d a r q .queue .slots) ++ rest
@@ -71,14 +68,6 @@ module _ {A : Type 0} where
       go false true = rw flag-twice
       go false false = refl
 
-  placing-bound : (d : ℕ) (a : A) (r : Ruling) (q : Queue A) → length (q .slots) ≤ d → length (place d a r q .queue .slots) ≤ d
-  placing-bound d a (StoreNothing w) q l = l
-  placing-bound d a (Store i) q l = go (ltb (length (q .slots)) d) refl
-    where
-      go : (room : Bool) → ltb (length (q .slots)) d ≡ room → length (placeItem room i a q .queue .slots) ≤ d
-      go true e = simp length-append (omega (arith, ltb-true))
-      go false e = simp flag-length l
-
   -- HANDING OVER
 
   -- a read: what it takes and what it leaves, where an emptied queue loses nothing next
@@ -95,12 +84,9 @@ module _ {A : Type 0} where
   rejoin x u v k w y p q = rw (append-assoc, p, ← append-assoc x k w, q)
 
   -- a line call hands nothing over
-  pub line-hands : (h : Channel A) (a : A) (c : LineCall) (g : Given (Channel A)) → handedBy (entryOf h (record { name = a; call = line c }) g) ≡ []
-  line-hands h a c g = go (isRefused (g .answer))
-    where
-      go : (t : Bool) → take (if t then 0 else 0) (h .queue .slots) ≡ []
-      go true = refl
-      go false = refl
+  pub line-hands : (h : Channel A) (a : A) (c : LineCall) (answer : Answer) (l : List ℕ)
+      → handedBy (record { before = h; by = record { name = a; call = line c }; answer = answer; lent = l }) ≡ []
+  line-hands h a c answer l = either (λ (n : ℕ). take n (h .queue .slots) ≡ []) (isRefused answer) refl refl
 
   module _ (z : Size) where
     -- NOTHING IS LOST NEXT from an empty queue with room
@@ -121,7 +107,7 @@ module _ {A : Type 0} where
     no-loss-one cs ih a h e l (change s _) = ih _ e l
     no-loss-one cs ih a h e l renewal = ih fresh refl l
     no-loss-one cs ih a h e l showing = ih h e l
-    no-loss-one cs ih a h e l (sending c answer t s q) = rw (q .fateless) (ih _ e l)
+    no-loss-one cs ih a h e l (sending c g d q) = rw (q .fateless) (ih _ e l)
 
     no-loss : (cs : List (Named A ChannelCall)) → NoLoss cs
     no-loss [] h e l = refl
@@ -131,7 +117,7 @@ module _ {A : Type 0} where
 
     abbrev Law : List (Named A ChannelCall) → Type 0
     Law cs =
-        (h : Channel A) → length (h .queue .slots) ≤ z .depth → Steady cs
+        (h : Channel A) → Within (z .depth) (h .queue) → Steady cs
         → handed (entries z h cs) ++ leaves z h cs .queue .slots ≡ flaggedIf (lossNext (entries z h cs)) (h .queue .slots) ++ stored (entries z h cs)
 
     -- the same behind a call c that gave g
@@ -143,26 +129,26 @@ module _ {A : Type 0} where
         ++ (storedAs (c .name) (fateOf (g .answer)) (arrivalItem h (c .call)) (lossNext rest) ++ stored rest)
 
     law-one : (cs : List (Named A ChannelCall)) → Law cs → (a : A) (h : Channel A) {c : ChannelCall} {g : Given (Channel A)}
-        → length (h .queue .slots) ≤ z .depth → isReset c ≡ false → Steady cs → Deed z a h c g → Says h (record { name = a; call = c }) cs g
+        → Within (z .depth) (h .queue) → isReset c ≡ false → Steady cs → Deed z a h c g → Says h (record { name = a; call = c }) cs g
     law-one cs law a h l e s (refusal r _) = law h l s
     law-one cs law a h l e s (arrival kind b _) =
         let r = Arrival.arrival (h .settings) (h .flags) kind b .ruling in
-        law _ (placing-bound (z .depth) a r (h .queue) l) s ∙ placing (z .depth) a r (h .queue) _ _
+        law _ (placed-within (z .depth) a r (h .queue) l) s ∙ placing (z .depth) a r (h .queue) _ _
     law-one cs law a h l e s (reading n at buffer _) =
         let waits = h .queue .slots in
         let h′ : Channel A = handedOver h n at buffer .next in
         let t = lossNext (entries z h′ cs) in
         rejoin (take n waits) (handed (entries z h′ cs)) (leaves z h′ cs .queue .slots) (flaggedIf t (drop n waits)) (stored (entries z h′ cs)) (flaggedIf t waits)
-        (law h′ (simp length-drop (omega arith)) s)
-        (taking n waits t (λ emptied some. no-loss cs h′ emptied (omega arith)))
+        (law h′ (record { waiting = simp length-drop (omega (arith, l .waiting)); losses = l .losses }) s)
+        (taking n waits t (λ emptied some. no-loss cs h′ emptied (omega (arith, l .waiting))))
     law-one cs law a h l e s (change _ _) = law _ l s
     law-one cs law a h l e s renewal = let w : _≡_ {A = ℕ} 0 1 = cc in absurd (omega arith)
     law-one cs law a h l e s showing = law h l s
-    law-one cs law a h l e s (sending c answer t s′ q) =
-        let g : Given (Channel A) = given answer (record { settings = h .settings; flags = h .flags; queue = h .queue; transmitter = t }) s′ in
-        let rest = entries z (g .next) cs in
+    law-one cs law a h l e s (sending c g d q) =
+        let h′ : Channel A = record { settings = h .settings; flags = h .flags; queue = h .queue; transmitter = g .next } in
         rw (q .fateless)
-        (ap (λ (out : List (Slot A)). (out ++ handed rest) ++ leaves z (g .next) cs .queue .slots) (line-hands h a c g) ∙ law (g .next) l s)
+        (ap (λ (out : List (Slot A)). (out ++ handed (entries z h′ cs)) ++ leaves z h′ cs .queue .slots) (line-hands h a c (g .answer) (g .lent))
+        ∙ law h′ l s)
 
     law : (cs : List (Named A ChannelCall)) → Law cs
     law [] h l s = sym (append-nil (h .queue .slots))
@@ -180,28 +166,21 @@ module _ {A : Type 0} where
         go false = omega arith
 
     abbrev Count : List (Named A ChannelCall) → Type 0
-    Count cs = (h : Channel A) → h .queue .losses ≤ 65535 → Steady cs → leaves z h cs .queue .losses ≡ min (h .queue .losses + lost (entries z h cs)) 65535
-
-    count-bound : (d : ℕ) (a : A) (r : Ruling) (q : Queue A) → q .losses ≤ 65535 → place d a r q .queue .losses ≤ 65535
-    count-bound d a (StoreNothing w) q l = l
-    count-bound d a (Store i) q l = go (ltb (length (q .slots)) d)
-      where
-        go : (room : Bool) → placeItem room i a q .queue .losses ≤ 65535
-        go true = l
-        go false = omega arith
+    Count cs = (h : Channel A) → Within (z .depth) (h .queue) → Steady cs → leaves z h cs .queue .losses ≡ min (h .queue .losses + lost (entries z h cs)) 65535
 
     count-one : (cs : List (Named A ChannelCall)) → Count cs → (a : A) (h : Channel A) {c : ChannelCall} {g : Given (Channel A)}
-        → h .queue .losses ≤ 65535 → isReset c ≡ false → Steady cs → Deed z a h c g
+        → Within (z .depth) (h .queue) → isReset c ≡ false → Steady cs → Deed z a h c g
         → leaves z (g .next) cs .queue .losses ≡ min (h .queue .losses + (lostOne (fateOf (g .answer)) + lost (entries z (g .next) cs))) 65535
     count-one cs count a h l e s (refusal r _) = count h l s ∙ omega arith
     count-one cs count a h l e s (arrival kind b _) =
         let r = Arrival.arrival (h .settings) (h .flags) kind b .ruling in
-        count _ (count-bound (z .depth) a r (h .queue) l) s ∙ count-placing (z .depth) a r (h .queue) _
-    count-one cs count a h l e s (reading n at buffer _) = count _ l s ∙ omega arith
+        count _ (placed-within (z .depth) a r (h .queue) l) s ∙ count-placing (z .depth) a r (h .queue) _
+    count-one cs count a h l e s (reading n at buffer _) =
+        count _ (record { waiting = simp length-drop (omega (arith, l .waiting)); losses = l .losses }) s ∙ omega arith
     count-one cs count a h l e s (change _ _) = count _ l s ∙ omega arith
     count-one cs count a h l e s renewal = let w : _≡_ {A = ℕ} 0 1 = cc in absurd (omega arith)
     count-one cs count a h l e s showing = count h l s ∙ omega arith
-    count-one cs count a h l e s (sending c answer t _ q) = rw (q .fateless) (count _ l s ∙ omega arith)
+    count-one cs count a h l e s (sending c g d q) = rw (q .fateless) (count _ l s ∙ omega arith)
 
     count : (cs : List (Named A ChannelCall)) → Count cs
     count [] h l s = omega arith
@@ -216,10 +195,10 @@ first-in-first-out A z n small cs =
     rw (history-is z n small cs, after-is z n small cs) (go (since z (portCalls n cs)))
   where
     go : {es : List (Entry A)} {h : Channel A} → SteadyRun z es h → handed es ++ h .queue .slots ≡ stored es
-    go r = rw (r .told, r .left) (law z (r .calls) fresh (omega arith) (r .steady) ∙ rw flag-none)
+    go r = rw (r .told, r .left) (law z (r .calls) fresh (record { waiting = omega arith; losses = omega arith }) (r .steady) ∙ rw flag-none)
 
 pub loss-count : LossCount
 loss-count A z n small cs = rw (history-is z n small cs, after-is z n small cs) (go (since z (portCalls n cs)))
   where
     go : {es : List (Entry A)} {h : Channel A} → SteadyRun z es h → h .queue .losses ≡ min (lost es) 65535
-    go r = rw (r .told, r .left) (count z (r .calls) fresh (omega arith) (r .steady) ∙ omega arith)
+    go r = rw (r .told, r .left) (count z (r .calls) fresh (record { waiting = omega arith; losses = omega arith }) (r .steady) ∙ omega arith)

@@ -1,23 +1,22 @@
 -- A port of the card answers as its channel alone does: the entries of a run are those of the channel's own run over the port's calls.
 use mathlib.Core.Path.{_≡_, refl, sym, ap, _∙_, subst}
 use mathlib.Core.Bool.{Bool, true, false}
-use mathlib.Core.Logic.{_≢_}
 use mathlib.Core.List.{List, [], _∷_, _++_}
-use mathlib.Core.Option.{Option, none, some}
 use Prim.Native.Nat.{ℕ, zero, suc, _<_}
 use native.Mathlib.Omega.{arith}
 use lib.Dec.{eqb, ltb}
 use lib.ListN.{length, getD, length-set}
-use lib.Seq.{getD-set-same, getD-set-other}
+use lib.Seq.{getD-set-same}
 use borrow.Author.Tests.{eqb-true, eqb-false, eq-eqb, le-ltb}
 use Rattle.paper.specs.Choice.{if_then_else_}
 use Rattle.paper.specs.Given.{Given}
 use Rattle.paper.specs.Settings.{Size}
 use Rattle.paper.specs.Channel.{Channel, fresh, ChannelCall, channelStep}
-use Rattle.paper.specs.Card.{Card, freshCard, Call, on, pick, at, with, put, round, firstReady, pickedAs, picked, step}
+use Rattle.paper.specs.Card.{Card, freshCard, Call, on, pick, at, with, put, step}
 use Rattle.paper.specs.Run.{Named, run, end}
 use Rattle.demands.specs.History.{Entry, port}
-use Rattle.demands.proofs.Choices.{either}
+use Rattle.demands.proofs.Cases.{by-number, by-pick}
+use Rattle.demands.proofs.Isolation.{isolation}
 
 module _ {A : Type 0} where
   -- THE CHANNEL'S OWN RUN
@@ -45,37 +44,21 @@ module _ {A : Type 0} where
 
   -- ONE CALL OF THE CARD
 
-  -- a pick alters no channel
-  pub pick-channels : (K : Card A) → picked K .next .channels ≡ K .channels
-  unfolding picked
-  pick-channels K = go (firstReady K (round (K .place)))
-    where
-      go : (o : Option ℕ) → pickedAs K o .next .channels ≡ K .channels
-      go none = refl
-      go (some n) = refl
-
   pub at-here : (K : Card A) (n : ℕ) (h : Channel A) → n < length (K .channels) → at (with K n h) n ≡ h
   at-here K n h l = getD-set-same (K .channels) n h fresh l
 
   module _ (z : Size) (a : A) (K : Card A) where
-    pub step-length : (c : Call) → length (step z a K c .next .channels) ≡ length (K .channels)
-    unfolding step
+    step-length : (c : Call) → length (step z a K c .next .channels) ≡ length (K .channels)
     step-length (on n c) =
-        either (λ (g : Given (Card A)). length (g .next .channels) ≡ length (K .channels)) (ltb 3 n) refl (length-set (K .channels) n _)
-    step-length pick = ap length (pick-channels K)
+        by-number z a K (λ (g : Given (Card A)). length (g .next .channels) ≡ length (K .channels)) n c (λ _. refl) (λ _. length-set (K .channels) n _)
+    step-length pick = by-pick z a K (λ (g : Given (Card A)). length (g .next .channels) ≡ length (K .channels)) refl (λ _ _. refl)
 
-    pub pick-at : (n : ℕ) → at (step z a K pick .next) n ≡ at K n
-    unfolding step
-    pick-at n = ap (λ (l : List (Channel A)). getD l n fresh) (pick-channels K)
-
-    -- a call on another channel
-    pub elsewhere : (m n : ℕ) (c : ChannelCall) → n ≢ m → at (step z a K (on m c) .next) n ≡ at K n
-    unfolding step
-    elsewhere m n c ne =
-        either (λ (g : Given (Card A)). at (g .next) n ≡ at K n) (ltb 3 m) refl (getD-set-other (K .channels) m n _ fresh ne)
+    -- a pick alters no channel
+    pick-at : (n : ℕ) → at (step z a K pick .next) n ≡ at K n
+    pick-at n = by-pick z a K (λ (g : Given (Card A)). at (g .next) n ≡ at K n) refl (λ _ _. refl)
 
     -- a call on this channel
-    pub here : (n : ℕ) (c : ChannelCall) → n < 4 → step z a K (on n c) ≡ put K n (channelStep z a (at K n) c)
+    here : (n : ℕ) (c : ChannelCall) → n < 4 → step z a K (on n c) ≡ put K n (channelStep z a (at K n) c)
     unfolding step
     here n c l = let e : ltb 3 n ≡ false = le-ltb 3 n (omega arith) in rw e
 
@@ -120,7 +103,7 @@ module _ {A : Type 0} where
             subst (λ (k : ℕ). Alone z n K (record { name = a; call = on k c } ∷ cs)) (sym (eqb-true m n t)) (law-here cs law a c K four)
         go false t =
             let r = law (step z a K (on m c) .next) (step-length z a K (on m c) ∙ four) in
-            let s = elsewhere z a K m n c (λ (e : n ≡ m). eqb-false m n t (sym e)) in
+            let s = isolation .others A z a K m c n (λ (e : n ≡ m). eqb-false m n t (sym e)) in
             record {
               told = rw t (r .told ∙ ap (λ (h : Channel A). entries z h (portCalls n cs)) s);
               left = rw t (r .left ∙ ap (λ (h : Channel A). leaves z h (portCalls n cs)) s);

@@ -170,9 +170,9 @@ module _ {A : Type 0} where
     hands-one cs ih a h p m ms (change _ _) = ih _ p ms
     hands-one cs ih a h p m ms renewal = ih fresh nil ms
     hands-one cs ih a h p m ms showing = ih h p ms
-    hands-one cs ih a h p m ms (sending c answer t l q) =
-        let g : Given (Channel A) = given answer (record { settings = h .settings; flags = h .flags; queue = h .queue; transmitter = t }) l in
-        subst⁻¹ (λ (out : List (Slot A)). Fair (out ++ handed (entries z (g .next) cs))) (line-hands h a c g) (ih (g .next) p ms)
+    hands-one cs ih a h p m ms (sending c g d q) =
+        let h′ : Channel A = record { settings = h .settings; flags = h .flags; queue = h .queue; transmitter = g .next } in
+        subst⁻¹ (λ (out : List (Slot A)). Fair (out ++ handed (entries z h′ cs))) (line-hands h a c (g .answer) (g .lent)) (ih h′ p ms)
 
     hands : (cs : List (Named A ChannelCall)) → Hands cs
     hands [] h p m = nil
@@ -194,9 +194,10 @@ module _ {A : Type 0} where
     found-one cs ih a h (change _ _) = ih _
     found-one cs ih a h renewal = ih fresh
     found-one cs ih a h showing = ih h
-    found-one cs ih a h (sending c answer t l q) =
-        let g : Given (Channel A) = given answer (record { settings = h .settings; flags = h .flags; queue = h .queue; transmitter = t }) l in
-        rw (q .wordless) (ih (g .next) ∙ ap (λ (out : List (Slot A)). images (itemsOf (out ++ handed (entries z (g .next) cs)))) (sym (line-hands h a c g)))
+    found-one cs ih a h (sending c g d q) =
+        let h′ : Channel A = record { settings = h .settings; flags = h .flags; queue = h .queue; transmitter = g .next } in
+        let hands = line-hands h a c (g .answer) (g .lent) in
+        rw (q .wordless) (ih h′ ∙ ap (λ (out : List (Slot A)). images (itemsOf (out ++ handed (entries z h′ cs)))) (sym hands))
 
     found : (cs : List (Named A ChannelCall)) → Found cs
     found [] h = refl
