@@ -14,3 +14,4 @@ pub mod Since
 pub mod Fifo
 pub mod ReadBack
 pub mod Queues
+pub mod ReadingMore
