@@ -15,3 +15,4 @@ pub mod Fifo
 pub mod ReadBack
 pub mod Queues
 pub mod ReadingMore
+pub mod Names
