@@ -23,14 +23,18 @@ found-alike (a ∷ k) [] n x d e = absurd (omega arith)
 found-alike (a ∷ k) (b ∷ l) zero x d e = refl
 found-alike (a ∷ k) (b ∷ l) (suc n) x d e = found-alike k l n x d (omega arith)
 
-module _ {A : Type 0} where
-  alone : (K L : Card A) (n : ℕ) (c : ChannelCall) (g : Given (Channel A)) → length (K .channels) ≡ length (L .channels) → at K n ≡ at L n
-      → (above : Bool)
-      → let d = if above then refused BadChannel K (lent c) else put K n g in
-      let e = if above then refused BadChannel L (lent c) else put L n g in
-      (d .answer ≡ e .answer) × (d .lent ≡ e .lent) × (at (d .next) n ≡ at (e .next) n)
-  alone K L n c g long e true = (refl, refl, e)
-  alone K L n c g long e false = (refl, refl, found-alike (K .channels) (L .channels) n (g .next) fresh long)
+module _ {A : Type 0} (K L : Card A) (n : ℕ) (c : ChannelCall) (g : Given (Channel A)) where
+  alone : (above : Bool)
+      → let x = if above then refused BadChannel K (lent c) else put K n g in
+      let y = if above then refused BadChannel L (lent c) else put L n g in
+      (x .answer ≡ y .answer) × (x .lent ≡ y .lent)
+  alone true = (refl, refl)
+  alone false = (refl, refl)
+
+  next : length (K .channels) ≡ length (L .channels) → at K n ≡ at L n → (above : Bool)
+      → at ((if above then refused BadChannel K (lent c) else put K n g) .next) n ≡ at ((if above then refused BadChannel L (lent c) else put L n g) .next) n
+  next long e true = e
+  next long e false = found-alike (K .channels) (L .channels) n (g .next) fresh long
 
 pub isolation : Isolation
 unfolding step
@@ -39,5 +43,6 @@ isolation =
       others = λ A z a K n c m ne.
           by-number z a K (λ g. at (g .next) m ≡ at K m) n c (λ above. refl) (λ small. getD-set-other (K .channels) n m _ fresh ne);
       place = λ A z a K n c. by-number z a K (λ g. g .next .place ≡ K .place) n c (λ above. refl) (λ small. refl);
-      alone = λ A z a K L n c long e. rw e (alone K L n c (channelStep z a (at L n) c) long e (ltb 3 n));
+      alone = λ A z a K L n c e. rw e (alone K L n c (channelStep z a (at L n) c) (ltb 3 n));
+      next = λ A z a K L n c long e. rw e (next K L n c (channelStep z a (at L n) c) long e (ltb 3 n));
     }

@@ -1,7 +1,7 @@
 pub mod Choices
 pub mod Cases
 pub mod Placing
-pub mod WholeCase
+pub mod Examples
 pub mod Reader
 pub mod Lines
 pub mod Isolation
@@ -16,3 +16,4 @@ pub mod ReadBack
 pub mod Queues
 pub mod ReadingMore
 pub mod Names
+pub mod Demands

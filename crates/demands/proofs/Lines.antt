@@ -170,8 +170,8 @@ unfolding lineCall
 line-calls z line =
     chosen (IfSome (Calls z line)) (ltb 68 (length line)) (λ _. nothing) (λ e. short-calls z line (ltb-false _ _ e) (spells line))
 
-pub lines-law : Lines
-lines-law =
+pub lines : Lines
+lines =
     record {
       called = λ z K line c h. ap (replied z K) (calls z line c h);
       refused = λ z K line none-spelt. go z K line none-spelt (line-calls z line);

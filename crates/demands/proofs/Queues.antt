@@ -124,15 +124,15 @@ module _ {A : Type 0} where
         go true false b c f = absurd (omega (arith, ltb-true, ltb-false))
         go false false b c f = f
 
-    pub reading-more : (g p h q : List A) (rs : List (Ruled A)) (ms ns : List ℕ) → Each _≤_ ms ns → Ahead d e g p h q
+    pub stays-ahead : (g p h q : List A) (rs : List (Ruled A)) (ms ns : List ℕ) → Each _≤_ ms ns → Ahead d e g p h q
         → Each (Keeps d e) (queueBefores d g p rs ms) (queueBefores e h q rs ns)
-    reading-more g p h q [] ms ns l a = nil
-    reading-more g p h q (r ∷ rs) ms ns nil a = nil
-    reading-more g p h q (r ∷ rs) ms ns (cons {a = m} {b = n} {l = ms′} {m = ns′} le l) a =
+    stays-ahead g p h q [] ms ns l a = nil
+    stays-ahead g p h q (r ∷ rs) ms ns nil a = nil
+    stays-ahead g p h q (r ∷ rs) ms ns (cons {a = m} {b = n} {l = ms′} {m = ns′} le l) a =
         let b = ahead-read g p h q m n le a in
         cons
         (record {
           has = λ s. within-front (g ++ take m p) (drop m p) (h ++ take n q) (drop n q) (b .within) (omega (arith, b .room));
           accepts = accepts (drop m p) (drop n q) (r .ruling) (b .room);
         })
-        (reading-more _ _ _ _ rs ms′ ns′ l (ahead-push _ _ _ _ (r .name) (r .ruling) b))
+        (stays-ahead _ _ _ _ rs ms′ ns′ l (ahead-push _ _ _ _ (r .name) (r .ruling) b))

@@ -29,7 +29,7 @@ use Rattle.demands.specs.Demands.{history, ReadingMore}
 use Rattle.demands.proofs.Choices.{either}
 use Rattle.demands.proofs.Cases.{Deed, refusal, arrival, reading, change, renewal, showing, sending, deed}
 use Rattle.demands.proofs.Port.{entryOf, entries, callsAt, portCalls, history-is}
-use Rattle.demands.proofs.Queues.{Ruled, push, pushFate, queueBefores, Ahead, Keeps, reading-more}
+use Rattle.demands.proofs.Queues.{Ruled, push, pushFate, queueBefores, Ahead, Keeps, stays-ahead}
 
 -- NAMES that wait
 
@@ -216,7 +216,7 @@ from-empty d e le (r ∷ rs) [] ns p q l = absurd (omega arith)
 from-empty d e le (r ∷ rs) (m ∷ ms) [] p q l = absurd (omega arith)
 from-empty d e le (r ∷ rs) (m ∷ ms) (n ∷ ns) p q l =
     simp (take-nil, drop-nil)
-    (reading-more d e le [] [] [] [] (r ∷ rs) (0 ∷ ms) (0 ∷ ns) (cons (le-refl 0) l) (record { within = empty; room = omega arith }))
+    (stays-ahead d e le [] [] [] [] (r ∷ rs) (0 ∷ ms) (0 ∷ ns) (cons (le-refl 0) l) (record { within = empty; room = omega arith }))
 
 -- two runs of a fresh channel with the same events, at depths d and e, the second asking for at least as much
 two-runs : (z y : Size) → z .depth ≤ y .depth → (cs ds : List ChannelCall)
@@ -238,8 +238,8 @@ each-map f (cons {a = a} {b = b} r e) = cons (f a b r) (each-map f e)
 numbered-history : (z : Size) (n : ℕ) → n < 4 → (cs : List Call) → history z n (numbered n 0 cs) ≡ entries z fresh (numberedCalls 0 (callsOn n cs))
 numbered-history z n small cs = history-is z n small (numbered n 0 cs) ∙ ap (entries z fresh) (numbers-on n 0 cs)
 
-pub reading-more-law : ReadingMore
-reading-more-law z n small cs ds =
+pub reading-more : ReadingMore
+reading-more z n small cs ds =
     rw (numbered-history z n small cs, numbered-history z n small ds)
     (λ p q e l.
     each-map

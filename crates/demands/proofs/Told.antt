@@ -30,5 +30,5 @@ module _ {A : Type 0} (z : Size) (a : A) (K : Card A) (n : ℕ) where
   unfolding channelStep
   state-tells = by-number z a K (Tells (given (shown (at K n)) K [])) n state (λ above e. absurd (true≢false e)) (λ small e. (refl, refl))
 
-pub told-law : Told
-told-law = record { read = λ A z a K n. read-tells z a K n; state = λ A z a K n e. state-tells z a K n e .0 }
+pub told : Told
+told = record { read = λ A z a K n. read-tells z a K n; state = λ A z a K n e. state-tells z a K n e .0 }

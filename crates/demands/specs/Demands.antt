@@ -16,6 +16,7 @@ use Rattle.paper.specs.Bounds.{Sound}
 use Rattle.paper.specs.Frames.{answered, reply, program}
 use Rattle.paper.specs.declared.Refusal.the-variants.{BrokenStream, ShortOutput}
 use Rattle.paper.specs.declared.Reading.the-variants.{Items, Unread}
+use Rattle.paper.specs.declared.Fate.the-variants.{Stored, Lost}
 use Rattle.paper.specs.declared.Answer.{Answer}
 use Rattle.paper.specs.declared.Answer.the-variants.{Handed, Shown, Picked}
 use Rattle.demands.specs.Text.{text}
@@ -66,12 +67,30 @@ Table =
     ∷ []
     ∷ []
 
+-- 01's table of line endings, for the values 0 to 7: what CR gives, and what NL gives
+abbrev pub Endings : Type 0
+Endings =
+    let under : ℕ → ℕ → List ℕ = λ b v. imageOf (but 4 v freshBytes) 0 b in
+    let values : List ℕ = 0 ∷ 1 ∷ 2 ∷ 3 ∷ 4 ∷ 5 ∷ 6 ∷ 7 ∷ [] in
+    (map (under 0x0D) values ≡ (0x0D ∷ []) ∷ (0x0D ∷ []) ∷ (0x0A ∷ []) ∷ (0x0A ∷ []) ∷ [] ∷ [] ∷ [] ∷ [] ∷ [])
+    × (map (under 0x0A) values
+    ≡ (0x0A ∷ []) ∷ (0x0D ∷ []) ∷ (0x0A ∷ []) ∷ (0x0D ∷ []) ∷ (0x0A ∷ []) ∷ (0x0D ∷ []) ∷ (0x0A ∷ []) ∷ (0x0D ∷ []) ∷ [])
+
 -- "Whole case, input then output"
 abbrev pub WholeCase : Type 0
 WholeCase =
     program twelve
     (text "0700040100020200010200011113000016\n010000FF\n01000141\n01000013\n01000016\n01000013\n0100000D\n08\n03000A42\n0400\n01000011\n0400\n0400\n0A00\n02000C\n01040041\n")
     ≡ text "00\n0000\n0000\n0001\n0000\n0000\n0000\n0000\n0002\n0000\n0001\n00010D\n00010A\n000501000000\n000500FFFFFF004116130A\n01\n"
+
+-- "Line turn" and "Special", sentence by sentence, worked out by hand: CTS holds the NL and A that were loaded, and special 3 goes all the same; a
+-- second special is refused while it waits; with CTS the NL goes out as CR, and special 1 between it and its NL; field 10 is turned off, and the
+-- owed NL does not count in the state and is sent; then A, then nothing; special 0 and 5, and CTS 2, are refused
+abbrev pub LineCase : Type 0
+LineCase =
+    program twelve
+    (text "07000101000000000001010111131A1B16\n03000A41\n0400\n060003\n060004\n0400\n050001\n0400\n060001\n0400\n07000101000000000001010011131A1B16\n0A00\n0400\n0400\n0400\n060000\n060005\n050002")
+    ≡ text "00\n0002\n0000\n00\n07\n00011A\n00\n00010D\n00\n000111\n00\n000001000000\n00010A\n000141\n0000\n06\n06\n0A\n"
 
 -- DEMAND 2: THE READER
 
@@ -140,10 +159,10 @@ LossCount =
 -- a read tells of what it hands over and a state of what there is: no count is made up
 pub record Told : Type 1 where
   pub read : (A : Type 0) (z : Size) (a : A) (K : Card A) (n count place : ℕ) (buffer : List ℕ)
-      → let d = step z a K (on n (read count place buffer)) in
+      → let g = step z a K (on n (read count place buffer)) in
       let out = oldest count (at K n .queue) in
-      isRefused (d .answer) ≡ false
-      → (d .answer ≡ Handed (length out) (flags out) (length (images (itemsOf out)))) × (d .lent ≡ written buffer place (images (itemsOf out)))
+      isRefused (g .answer) ≡ false
+      → (g .answer ≡ Handed (length out) (flags out) (length (images (itemsOf out)))) × (g .lent ≡ written buffer place (images (itemsOf out)))
   pub state : (A : Type 0) (z : Size) (a : A) (K : Card A) (n : ℕ)
       → let h = at K n in
       isRefused (step z a K (on n state) .answer) ≡ false
@@ -164,6 +183,17 @@ ReadingMore =
     → Each _≤_ (between first) (between second)
     → Each NoWorse (befores [] first) (befores [] second)
 
+-- it says something: a queue of one item loses the second arrival to a host that reads nothing, and not to one that reads between the two
+abbrev pub one : Size
+one = record { depth = 1; most = 1 }
+
+abbrev pub TwoHosts : Type 0
+TwoHosts =
+    (befores [] (history one 0 (numbered 0 0 (on 0 (arrive 0 65) ∷ on 0 (arrive 0 66) ∷ [])))
+    ≡ record { has = []; fate = Stored } ∷ record { has = []; fate = Lost } ∷ [])
+    × (befores [] (history one 0 (numbered 0 0 (on 0 (arrive 0 65) ∷ on 0 (read 1 0 (0 ∷ 0 ∷ 0 ∷ [])) ∷ on 0 (arrive 0 66) ∷ [])))
+    ≡ record { has = []; fate = Stored } ∷ record { has = 0 ∷ []; fate = Stored } ∷ [])
+
 -- names, and so the numbering, change no answer and no lent byte
 abbrev pub told : {A : Type 0} → Moment A → Answer × List ℕ
 told m = (m .gave .answer, m .gave .lent)
@@ -180,11 +210,12 @@ pub record Isolation : Type 1 where
   pub others : (A : Type 0) (z : Size) (a : A) (K : Card A) (n : ℕ) (c : ChannelCall) (m : ℕ)
       → m ≢ n → at (step z a K (on n c) .next) m ≡ at K m
   pub place : (A : Type 0) (z : Size) (a : A) (K : Card A) (n : ℕ) (c : ChannelCall) → step z a K (on n c) .next .place ≡ K .place
-  pub alone : (A : Type 0) (z : Size) (a : A) (K L : Card A) (n : ℕ) (c : ChannelCall)
-      → length (K .channels) ≡ length (L .channels) → at K n ≡ at L n
-      → let d = step z a K (on n c) in
-      let e = step z a L (on n c) in
-      (d .answer ≡ e .answer) × (d .lent ≡ e .lent) × (at (d .next) n ≡ at (e .next) n)
+  pub alone : (A : Type 0) (z : Size) (a : A) (K L : Card A) (n : ℕ) (c : ChannelCall) → at K n ≡ at L n
+      → let g = step z a K (on n c) in
+      let h = step z a L (on n c) in
+      (g .answer ≡ h .answer) × (g .lent ≡ h .lent)
+  pub next : (A : Type 0) (z : Size) (a : A) (K L : Card A) (n : ℕ) (c : ChannelCall)
+      → length (K .channels) ≡ length (L .channels) → at K n ≡ at L n → at (step z a K (on n c) .next) n ≡ at (step z a L (on n c) .next) n
 
 -- "A channel at its threshold at each of four picks in a row is named by one of them", whatever other calls stand between
 abbrev pub FourPicks : Type 1
@@ -206,8 +237,8 @@ lentBy pick = []
 -- "refused by a fixed number, with the card and all lent bytes unchanged"; "No refusal is given outside these conditions"
 pub record Refusals : Type 1 where
   pub unchanged : (A : Type 0) (z : Size) (a : A) (K : Card A) (c : Call)
-      → let d = step z a K c in
-      isRefused (d .answer) ≡ true → (d .next ≡ K) × (d .lent ≡ lentBy c)
+      → let g = step z a K c in
+      isRefused (g .answer) ≡ true → (g .next ≡ K) × (g .lent ≡ lentBy c)
   pub exact : (A : Type 0) (z : Size) (a : A) (K : Card A) (c : Call) → FirstDue (conditions z K c) (step z a K c .answer)
 
 -- "A line that 11 refuses makes no call": a line that spells a frame is answered as its call, and any other by 0B alone
@@ -221,3 +252,25 @@ pub record Lines : Type 0 where
 pub record Bounds : Type 1 where
   pub fresh : (A : Type 0) (z : Size) → 1 ≤ z .most → Sound {A = A} z freshCard
   pub kept : (A : Type 0) (z : Size) (a : A) (K : Card A) (c : Call) → 1 ≤ z .most → Sound z K → Sound z (step z a K c .next)
+
+-- ALL OF THEM; proofs/Demands.antt has the proof
+pub record Demands : Type 1 where
+  pub table : Table
+  pub endings : Endings
+  pub whole-case : WholeCase
+  pub line-case : LineCase
+  pub reader : Reader
+  pub reader-call : ReaderCall
+  pub clean-front : (s : List ℕ) → CleanFront s
+  pub read-back : ReadBack
+  pub first-in-first-out : FirstInFirstOut
+  pub loss-count : LossCount
+  pub told : Told
+  pub reading-more : ReadingMore
+  pub two-hosts : TwoHosts
+  pub names-unseen : NamesUnseen
+  pub isolation : Isolation
+  pub four-picks : FourPicks
+  pub refusals : Refusals
+  pub lines : Lines
+  pub bounds : Bounds

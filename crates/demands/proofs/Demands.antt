@@ -1,0 +1,38 @@
+-- Every demand of specs/Demands.antt, with its proof.
+use Rattle.demands.specs.Demands.{Demands}
+use Rattle.demands.proofs.Examples.{table, endings, whole-case, line-case, two-hosts}
+use Rattle.demands.proofs.Reader.{reader, reader-call, clean-front}
+use Rattle.demands.proofs.ReadBack.{read-back}
+use Rattle.demands.proofs.Fifo.{first-in-first-out, loss-count}
+use Rattle.demands.proofs.Told.{told}
+use Rattle.demands.proofs.ReadingMore.{reading-more}
+use Rattle.demands.proofs.Names.{names-unseen}
+use Rattle.demands.proofs.Isolation.{isolation}
+use Rattle.demands.proofs.Picks.{four-picks}
+use Rattle.demands.proofs.Refusals.{refusals}
+use Rattle.demands.proofs.Lines.{lines}
+use Rattle.demands.proofs.Bounds.{bounds}
+
+pub demands : Demands
+demands =
+    record {
+      table = table;
+      endings = endings;
+      whole-case = whole-case;
+      line-case = line-case;
+      reader = reader;
+      reader-call = reader-call;
+      clean-front = clean-front;
+      read-back = read-back;
+      first-in-first-out = first-in-first-out;
+      loss-count = loss-count;
+      told = told;
+      reading-more = reading-more;
+      two-hosts = two-hosts;
+      names-unseen = names-unseen;
+      isolation = isolation;
+      four-picks = four-picks;
+      refusals = refusals;
+      lines = lines;
+      bounds = bounds;
+    }

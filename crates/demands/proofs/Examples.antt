@@ -1,0 +1,29 @@
+-- The examples, by computation over the definitions.
+use mathlib.Core.Path.{refl}
+use Rattle.paper.specs.Settings.{badField}
+use Rattle.paper.specs.Arrival.{goodItem, step1, step2, stripped, woken, step4, step5, flowRuling, step6, ending, step7, good, arrival}
+use Rattle.paper.specs.Transmitter.{transmitDepth, loaded, lineStep}
+use Rattle.paper.specs.Channel.{noRoom, channelStep}
+use Rattle.paper.specs.Card.{picked, step}
+use Rattle.paper.specs.Frames.{callOf, digit, lineCall}
+use Rattle.demands.specs.Demands.{Table, Endings, WholeCase, LineCase, TwoHosts}
+
+pub table : Table
+unfolding badField goodItem step1 step2 stripped woken step4 step5 flowRuling step6 ending step7 good arrival channelStep
+table = refl
+
+pub endings : Endings
+unfolding badField goodItem step1 step2 stripped woken step4 step5 flowRuling step6 ending step7 good arrival channelStep
+endings = (refl, refl)
+
+pub whole-case : WholeCase
+unfolding badField goodItem step1 step2 stripped woken step4 step5 flowRuling step6 ending step7 good arrival transmitDepth loaded lineStep noRoom channelStep picked step callOf digit lineCall
+whole-case = refl
+
+pub line-case : LineCase
+unfolding badField goodItem step1 step2 stripped woken step4 step5 flowRuling step6 ending step7 good arrival transmitDepth loaded lineStep noRoom channelStep picked step callOf digit lineCall
+line-case = refl
+
+pub two-hosts : TwoHosts
+unfolding badField goodItem step1 step2 stripped woken step4 step5 flowRuling step6 ending step7 good arrival noRoom channelStep picked step
+two-hosts = (refl, refl)
