@@ -1,6 +1,6 @@
 -- Every demand of specs/Demands.antt, with its proof.
 use Rattle.demands.specs.Demands.{Demands}
-use Rattle.demands.proofs.Examples.{table, endings, whole-case, line-case, two-hosts}
+use Rattle.demands.proofs.Examples.{table, endings, whole-case, line-case, queue-case, two-hosts}
 use Rattle.demands.proofs.Reader.{reader, reader-call, clean-front}
 use Rattle.demands.proofs.ReadBack.{read-back}
 use Rattle.demands.proofs.Fifo.{first-in-first-out, loss-count}
@@ -20,6 +20,7 @@ demands =
       endings = endings;
       whole-case = whole-case;
       line-case = line-case;
+      queue-case = queue-case;
       reader = reader;
       reader-call = reader-call;
       clean-front = clean-front;

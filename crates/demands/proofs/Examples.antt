@@ -6,7 +6,8 @@ use Rattle.paper.specs.Transmitter.{transmitDepth, loaded, lineStep}
 use Rattle.paper.specs.Channel.{noRoom, channelStep}
 use Rattle.paper.specs.Card.{picked, step}
 use Rattle.paper.specs.Frames.{callOf, digit, lineCall}
-use Rattle.demands.specs.Demands.{Table, Endings, WholeCase, LineCase, TwoHosts}
+use Rattle.demands.specs.Examples.{Table, Endings, WholeCase, LineCase, QueueCase}
+use Rattle.demands.specs.Demands.{TwoHosts}
 
 pub table : Table
 unfolding badField goodItem step1 step2 stripped woken step4 step5 flowRuling step6 ending step7 good arrival channelStep
@@ -23,6 +24,10 @@ whole-case = refl
 pub line-case : LineCase
 unfolding badField goodItem step1 step2 stripped woken step4 step5 flowRuling step6 ending step7 good arrival transmitDepth loaded lineStep noRoom channelStep picked step callOf digit lineCall
 line-case = refl
+
+pub queue-case : QueueCase
+unfolding badField goodItem step1 step2 stripped woken step4 step5 flowRuling step6 ending step7 good arrival transmitDepth loaded lineStep noRoom channelStep picked step callOf digit lineCall
+queue-case = refl
 
 pub two-hosts : TwoHosts
 unfolding badField goodItem step1 step2 stripped woken step4 step5 flowRuling step6 ending step7 good arrival noRoom channelStep picked step

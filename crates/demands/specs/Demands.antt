@@ -4,93 +4,27 @@ use mathlib.Core.Bool.{Bool, true, false, not}
 use mathlib.Core.Logic.{_⊎_, _≢_}
 use mathlib.Core.List.{List, [], _∷_, _++_, map}
 use mathlib.Core.Option.{Option, none, some}
-use Prim.Native.Nat.{ℕ, _-_, _≤_, _<_, min}
-use lib.ListN.{length, getD, take, set}
-use Rattle.paper.specs.Settings.{Size, twelve, freshBytes}
+use Prim.Native.Nat.{ℕ, _≤_, _<_, min}
+use lib.ListN.{length, getD, take}
+use Rattle.paper.specs.Settings.{Size}
 use Rattle.paper.specs.Queue.{oldest, itemsOf, flags}
 use Rattle.paper.specs.Stream.{Character, images, sort, byte, front, Decoded, decode, cleanFront}
-use Rattle.paper.specs.Channel.{Channel, fresh, ChannelCall, arrive, read, settings, reset, state, lent, written, channelStep}
+use Rattle.paper.specs.Channel.{Channel, ChannelCall, arrive, read, state, lent, written}
 use Rattle.paper.specs.Card.{Card, freshCard, Call, on, pick, step, at, ready}
 use Rattle.paper.specs.Run.{Named, Moment, run, end, nameless}
 use Rattle.paper.specs.Bounds.{Sound}
-use Rattle.paper.specs.Frames.{answered, reply, program}
+use Rattle.paper.specs.Frames.{answered, reply}
 use Rattle.paper.specs.declared.Refusal.the-variants.{BrokenStream, ShortOutput}
 use Rattle.paper.specs.declared.Reading.the-variants.{Items, Unread}
 use Rattle.paper.specs.declared.Fate.the-variants.{Stored, Lost}
 use Rattle.paper.specs.declared.Answer.{Answer}
 use Rattle.paper.specs.declared.Answer.the-variants.{Handed, Shown, Picked}
 use Rattle.demands.specs.Text.{text}
+use Rattle.demands.specs.Examples.{Table, Endings, WholeCase, LineCase, QueueCase}
 use Rattle.demands.specs.Marks.{characterOf, stream, Accepts}
 use Rattle.demands.specs.History.{isRefused, Entry, port, sinceReset, NoReset, handed, bytesFound, Marking, stored, lost, events, between, befores, numbered, Each, NoWorse, NoPick}
 use Rattle.demands.specs.Conditions.{conditions, FirstDue}
 use Rattle.demands.specs.FrameTable.{Calls}
-
--- EXAMPLES
-
--- fresh settings but for a field
-abbrev pub but : (field value : ℕ) → List ℕ → List ℕ
-but field value l = set l (field - 1) value
-
--- the stored image of one arrival, under settings
-abbrev pub imageOf : List ℕ → (kind byte : ℕ) → List ℕ
-imageOf l kind b =
-    let set = channelStep twelve (tt {0}) fresh (settings l) .next in
-    images (itemsOf (channelStep twelve (tt {0}) set (arrive kind b) .next .queue .slots))
-
--- "Prove these as one table"; kinds 0 good, 1 parity, 2 framing, 3 break
-abbrev pub Table : Type 0
-Table =
-    imageOf freshBytes 0 0x41
-    ∷ imageOf freshBytes 3 0
-    ∷ imageOf (but 2 0 freshBytes) 3 0
-    ∷ imageOf (but 1 4 freshBytes) 3 0
-    ∷ imageOf (but 1 4 freshBytes) 0 0xFF
-    ∷ imageOf (but 1 4 (but 3 1 freshBytes)) 0 0xFF
-    ∷ imageOf (but 1 4 (but 3 1 freshBytes)) 1 0xC1
-    ∷ imageOf (but 1 2 freshBytes) 2 0x41
-    ∷ imageOf (but 1 3 freshBytes) 1 0x41
-    ∷ imageOf (but 4 3 freshBytes) 0 0x0A
-    ∷ imageOf (but 4 5 freshBytes) 0 0x0A
-    ∷ imageOf (but 4 6 freshBytes) 0 0x0D
-    ∷ []
-    ≡ (0x41 ∷ [])
-    ∷ (0x00 ∷ [])
-    ∷ []
-    ∷ (0xFF ∷ 0x00 ∷ 0x00 ∷ [])
-    ∷ (0xFF ∷ 0xFF ∷ [])
-    ∷ (0x7F ∷ [])
-    ∷ (0xFF ∷ 0x00 ∷ 0xC1 ∷ [])
-    ∷ []
-    ∷ (0x00 ∷ [])
-    ∷ (0x0D ∷ [])
-    ∷ (0x0D ∷ [])
-    ∷ []
-    ∷ []
-
--- 01's table of line endings, for the values 0 to 7: what CR gives, and what NL gives
-abbrev pub Endings : Type 0
-Endings =
-    let under : ℕ → ℕ → List ℕ = λ b v. imageOf (but 4 v freshBytes) 0 b in
-    let values : List ℕ = 0 ∷ 1 ∷ 2 ∷ 3 ∷ 4 ∷ 5 ∷ 6 ∷ 7 ∷ [] in
-    (map (under 0x0D) values ≡ (0x0D ∷ []) ∷ (0x0D ∷ []) ∷ (0x0A ∷ []) ∷ (0x0A ∷ []) ∷ [] ∷ [] ∷ [] ∷ [] ∷ [])
-    × (map (under 0x0A) values
-    ≡ (0x0A ∷ []) ∷ (0x0D ∷ []) ∷ (0x0A ∷ []) ∷ (0x0D ∷ []) ∷ (0x0A ∷ []) ∷ (0x0D ∷ []) ∷ (0x0A ∷ []) ∷ (0x0D ∷ []) ∷ [])
-
--- "Whole case, input then output"
-abbrev pub WholeCase : Type 0
-WholeCase =
-    program twelve
-    (text "0700040100020200010200011113000016\n010000FF\n01000141\n01000013\n01000016\n01000013\n0100000D\n08\n03000A42\n0400\n01000011\n0400\n0400\n0A00\n02000C\n01040041\n")
-    ≡ text "00\n0000\n0000\n0001\n0000\n0000\n0000\n0000\n0002\n0000\n0001\n00010D\n00010A\n000501000000\n000500FFFFFF004116130A\n01\n"
-
--- "Line turn" and "Special", sentence by sentence, worked out by hand: CTS holds the NL and A that were loaded, and special 3 goes all the same; a
--- second special is refused while it waits; with CTS the NL goes out as CR, and special 1 between it and its NL; field 10 is turned off, and the
--- owed NL does not count in the state and is sent; then A, then nothing; special 0 and 5, and CTS 2, are refused
-abbrev pub LineCase : Type 0
-LineCase =
-    program twelve
-    (text "07000101000000000001010111131A1B16\n03000A41\n0400\n060003\n060004\n0400\n050001\n0400\n060001\n0400\n07000101000000000001010011131A1B16\n0A00\n0400\n0400\n0400\n060000\n060005\n050002")
-    ≡ text "00\n0002\n0000\n00\n07\n00011A\n00\n00010D\n00\n000111\n00\n000001000000\n00010A\n000141\n0000\n06\n06\n0A\n"
 
 -- DEMAND 2: THE READER
 
@@ -259,6 +193,7 @@ pub record Demands : Type 1 where
   pub endings : Endings
   pub whole-case : WholeCase
   pub line-case : LineCase
+  pub queue-case : QueueCase
   pub reader : Reader
   pub reader-call : ReaderCall
   pub clean-front : (s : List ℕ) → CleanFront s
