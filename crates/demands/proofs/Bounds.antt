@@ -1,5 +1,5 @@
 -- The bounds that a promise may ask hold of a fresh card, and every call keeps them.
-use mathlib.Core.Path.{_≡_, refl, ap}
+use mathlib.Core.Path.{_≡_, refl}
 use mathlib.Core.Bool.{Bool, true, false}
 use mathlib.Core.List.{List, [], _∷_}
 use mathlib.Core.Option.{Option, none, Option·some-ne-none}
@@ -10,11 +10,12 @@ use lib.ListN.{length, length-append, length-take, length-drop, length-set, getD
 use lib.Seq.{getD-set-same, getD-set-other}
 use borrow.Author.Tests.{le-ltb, eqb-true, eqb-false}
 use Rattle.paper.specs.Settings.{Size, settingsOf, freshSettings, tests, firstBad, badField}
-use Rattle.paper.specs.Transmitter.{Transmitter, LineCall, transmitDepth, loaded, lineStep}
+use Rattle.paper.specs.Transmitter.{Transmitter, LineCall, transmitDepth, loaded}
 use Rattle.paper.specs.Given.{Given}
 use Rattle.paper.specs.Arrival
-use Rattle.paper.specs.Channel.{Channel, fresh, ChannelCall, channelStep}
+use Rattle.paper.specs.Channel.{Channel, fresh, ChannelCall}
 use Rattle.paper.specs.Card.{Card, freshCard, Call, on, pick, step, at, with}
+use Rattle.paper.specs.Run.{Named, end}
 use Rattle.paper.specs.Bounds.{SoundChannel, Sound}
 use Rattle.demands.specs.Demands.{Bounds}
 use Rattle.demands.proofs.Choices.{chosen}
@@ -76,5 +77,14 @@ module _ {A : Type 0} (z : Size) (one : 1 ≤ z .most) where
   fresh-card =
       record { four = refl; each = λ n l. rw (getD-replicate 4 n (fresh {A = A}) fresh l) fresh-channel; place = omega arith }
 
+  reached : (K : Card A) (cs : List (Named A Call)) → Sound z K → Sound z (end z K cs)
+  reached K [] s = s
+  reached K (c ∷ cs) s = reached _ cs (kept (c .name) K (c .call) s)
+
 pub bounds : Bounds
-bounds = record { fresh = λ A z one. fresh-card z one; kept = λ A z a K c one. kept z one a K c }
+bounds =
+    record {
+      fresh = λ A z one. fresh-card z one;
+      kept = λ A z a K c one. kept z one a K c;
+      reached = λ A z cs one. reached z one freshCard cs (fresh-card z one);
+    }

@@ -1,31 +1,27 @@
 -- First in, first out, with the overrun flags; and the loss count.
-use mathlib.Core.Path.{_≡_, refl, sym, ap, _∙_, subst}
+use mathlib.Core.Path.{_≡_, refl, sym, ap, _∙_}
 use mathlib.Core.Bool.{Bool, true, false}
 use mathlib.Core.List.{List, [], _∷_, _++_, append-assoc, append-nil}
-use mathlib.Core.Option.{Option, none, some}
-use Prim.Native.Nat.{ℕ, zero, suc, _+_, _≤_, _<_, min}
+use mathlib.Core.Option.{some}
+use Prim.Native.Nat.{ℕ, _+_, _<_, min}
 use native.Mathlib.Omega.{arith}
 use lib.Dec.{ltb}
-use lib.ListN.{length, take, drop, length-append, length-drop, take-append-drop}
+use lib.ListN.{length, take, drop, length-drop, take-append-drop}
 use lib.Seq.{take-nil, drop-nil}
-use borrow.Author.Tests.{ltb-true, ltb-false, lt-ltb}
+use borrow.Author.Tests.{lt-ltb}
 use Rattle.paper.specs.Choice.{if_then_else_}
-use Rattle.paper.specs.Given.{Given, given, refused}
+use Rattle.paper.specs.Given.{Given}
 use Rattle.paper.specs.Settings.{Size}
 use Rattle.paper.specs.Arrival
 use Rattle.paper.specs.Queue.{Slot, Queue, flagNewest, placeItem, place}
 use Rattle.paper.specs.Transmitter.{LineCall}
-use Rattle.paper.specs.Channel.{Channel, fresh, ChannelCall, arrive, read, settings, reset, state, line, handedOver, channelStep}
+use Rattle.paper.specs.Channel.{Channel, fresh, ChannelCall, settings, line, handedOver}
 use Rattle.paper.specs.Run.{Named}
-use Rattle.paper.specs.declared.Item.{Item}
-use Rattle.paper.specs.declared.Outcome.{Outcome}
 use Rattle.paper.specs.declared.Ruling.{Ruling}
 use Rattle.paper.specs.declared.Ruling.the-variants.{Store, StoreNothing}
-use Rattle.paper.specs.declared.Fate.{Fate}
-use Rattle.paper.specs.declared.Fate.the-variants.{Stored, Nothing, Lost}
 use Rattle.paper.specs.declared.Answer.{Answer}
-use Rattle.demands.specs.History.{Entry, isReset, isRefused, asks, fateOf, handedBy, handed, itemOf, arrivalItem, lossNow, lossNext, storedAs, stored, lostOne, lost}
-use Rattle.demands.specs.Demands.{history, after, FirstInFirstOut, LossCount}
+use Rattle.demands.specs.History.{Entry, isReset, isRefused, fateOf, handedBy, handed, itemOf, arrivalItem, lossNow, lossNext, storedAs, stored, lostOne, lost}
+use Rattle.demands.specs.Demands.{FirstInFirstOut, LossCount}
 use Rattle.demands.proofs.Choices.{either}
 use Rattle.demands.proofs.Placing.{Within, placed-within}
 use Rattle.demands.proofs.Cases.{Deed, refusal, arrival, reading, change, renewal, showing, sending, deed}

@@ -1,19 +1,18 @@
 -- No rule looks at a name: with other names the calls give the same answers and the same lent bytes, and what waits is renamed.
-use mathlib.Core.Path.{_≡_, refl, sym, ap, ap₂, _∙_}
+use mathlib.Core.Path.{_≡_, refl, sym, ap, ap₂}
 use mathlib.Core.Bool.{Bool, true, false}
-use mathlib.Core.List.{List, [], _∷_, _++_, map, map-append}
+use mathlib.Core.List.{List, [], _∷_, map, map-append}
 use mathlib.Core.Option.{Option, none, some}
 use Prim.Native.Nat.{ℕ, zero, suc, min}
-use lib.Dec.{leb, ltb}
+use lib.Dec.{ltb}
 use lib.ListN.{length, take, drop, getD, set, length-map}
 use Rattle.paper.specs.Choice.{if_then_else_}
 use Rattle.paper.specs.Given.{Given, given, refused}
 use Rattle.paper.specs.Settings.{Size, badField}
 use Rattle.paper.specs.Arrival
-use Rattle.paper.specs.Queue.{Slot, Queue, Placed, flagNewest, placeItem, place, itemsOf, flags}
-use Rattle.paper.specs.Stream.{images}
+use Rattle.paper.specs.Queue.{Slot, Queue, Placed, flagNewest, placeItem, place, itemsOf, overruns}
 use Rattle.paper.specs.Channel.{Channel, fresh, ChannelCall, arrive, read, settings, reset, state, line, lent, noRoom, arrived, handedOver, settingsTaken, channelStep}
-use Rattle.paper.specs.Card.{Card, freshCard, Call, on, pick, at, with, ready, round, firstReady, pickedAs, picked, put, step}
+use Rattle.paper.specs.Card.{Card, freshCard, Call, on, pick, at, ready, round, firstReady, pickedAs, picked, put, step}
 use Rattle.paper.specs.Run.{Named, run, nameless}
 use Rattle.paper.specs.declared.Item.{Item}
 use Rattle.paper.specs.declared.Outcome.{Outcome}
@@ -91,9 +90,9 @@ module _ {A B : Type 0} (f : A → B) where
   re-items [] = refl
   re-items (x ∷ l) = ap (λ (r : List Item). x .item ∷ r) (re-items l)
 
-  re-flags : (l : List (Slot A)) → flags (map reSlot l) ≡ flags l
-  re-flags [] = refl
-  re-flags (x ∷ l) = ap (λ (n : ℕ). if x .over then suc n else n) (re-flags l)
+  re-overruns : (l : List (Slot A)) → overruns (map reSlot l) ≡ overruns l
+  re-overruns [] = refl
+  re-overruns (x ∷ l) = ap (λ (n : ℕ). if x .over then suc n else n) (re-overruns l)
 
   -- ONE CALL
 
@@ -107,7 +106,7 @@ module _ {A B : Type 0} (f : A → B) where
     re-handed h n at buffer =
         let waits = h .queue .slots in
         let e = sym (map-take reSlot n waits) in
-        rw (e, length-map, re-flags, re-items, ← map-drop reSlot n waits)
+        rw (e, length-map, re-overruns, re-items, ← map-drop reSlot n waits)
 
     re-settings : (h : Channel A) (l : List ℕ) (o : Option ℕ) → settingsTaken (reChannel h) l o ≡ reGiven (settingsTaken h l o)
     re-settings h l none = refl

@@ -1,5 +1,5 @@
 -- DEMAND 3 on bare queues, of any two depths: fed with the same rulings, the one that is read more and holds no less is always ahead.
-use mathlib.Core.Path.{_≡_, refl, sym, ap, _∙_}
+use mathlib.Core.Path.{_≡_, refl}
 use mathlib.Core.Bool.{Bool, true, false}
 use mathlib.Core.Logic.{_⊎_, inl, inr}
 use mathlib.Core.List.{List, [], _∷_, _++_, append-assoc}

@@ -1,35 +1,32 @@
 -- DEMAND 2 over whole call sequences: where marking was on at every arrival, the bytes that a host finds read back as the characters handed over.
 use mathlib.Core.Path.{_≡_, refl, sym, ap, ap₂, _∙_, subst⁻¹}
 use mathlib.Core.Bool.{Bool, true, false, _&&_, _||_}
-use mathlib.Core.List.{List, [], _∷_, _++_, map, append-assoc, map-append}
+use mathlib.Core.List.{List, [], _∷_, _++_, append-assoc, map-append}
 use mathlib.Core.Option.{Option, none, some}
 use Prim.Native.Nat.{ℕ, zero, suc, _+_, _*_, _≤_}
 use native.Mathlib.Omega.{arith}
 use lib.Dec.{eqb, ltb}
-use lib.ListN.{length, take, drop, length-take}
+use lib.ListN.{length, take, drop}
 use lib.Seq.{take-append-seam, drop-at, length-take-le}
-use borrow.Author.Tests.{eqb-true, eqb-false, ltb-false}
-use Rattle.paper.specs.Choice.{if_then_else_}
-use Rattle.paper.specs.Given.{Given, given}
+use borrow.Author.Tests.{ltb-false}
+use Rattle.paper.specs.Given.{Given}
 use Rattle.paper.specs.Settings.{Size}
 use Rattle.paper.specs.Arrival
-use Rattle.paper.specs.Arrival.{marking, goodItem, step1, step2, stripped, woken, step4, step5, flowRuling, step6, ending, endingRuling, step7}
+use Rattle.paper.specs.Arrival.{marking, goodItem, step1, step2, step4, step5, flowRuling, step6, ending, endingRuling, step7}
 use Rattle.paper.specs.Queue.{Slot, Queue, placeItem, place, flagNewest, itemsOf}
-use Rattle.paper.specs.Stream.{image, images, good}
-use Rattle.paper.specs.Transmitter.{LineCall}
-use Rattle.paper.specs.Channel.{Channel, fresh, ChannelCall, line, written, noRoom, handedOver, channelStep}
+use Rattle.paper.specs.Stream.{images, good}
+use Rattle.paper.specs.Channel.{Channel, fresh, ChannelCall, written, noRoom}
 use Rattle.paper.specs.Run.{Named, nameless}
 use Rattle.paper.specs.declared.Settings.{Settings}
 use Rattle.paper.specs.declared.Flags.{Flags}
 use Rattle.paper.specs.declared.Item.{Item}
-use Rattle.paper.specs.declared.Item.the-variants.{Plain, Doubled, Damaged}
+use Rattle.paper.specs.declared.Item.the-variants.{Plain}
 use Rattle.paper.specs.declared.Why.{Why}
 use Rattle.paper.specs.declared.Ruling.{Ruling}
 use Rattle.paper.specs.declared.Ruling.the-variants.{Store, StoreNothing}
 use Rattle.paper.specs.declared.Outcome.{Outcome}
-use Rattle.demands.specs.Marks.{markedItem}
-use Rattle.demands.specs.History.{Entry, fateOf, bytesTold, placeOf, MarkingAt, Marking, handedBy, handed, bytesFound}
-use Rattle.demands.specs.Demands.{history, ReadBack}
+use Rattle.demands.specs.History.{fateOf, bytesTold, placeOf, MarkingAt, Marking, handedBy, handed, bytesFound}
+use Rattle.demands.specs.Demands.{ReadBack}
 use Rattle.demands.proofs.Choices.{chosen, either}
 use Rattle.demands.proofs.Cases.{Deed, refusal, arrival, reading, change, renewal, showing, sending, deed}
 use Rattle.demands.proofs.Port.{entryOf, entries, portCalls, history-is}

@@ -1,8 +1,7 @@
 -- DEMAND 3: a port's history is that of a bare queue fed with the events' rulings and the counts asked for; and so reading more never loses more.
-use mathlib.Core.Path.{_≡_, refl, sym, ap, ap₂, _∙_, subst, subst⁻¹}
+use mathlib.Core.Path.{_≡_, refl, sym, ap, ap₂, _∙_, subst⁻¹}
 use mathlib.Core.Bool.{Bool, true, false}
-use mathlib.Core.List.{List, [], _∷_, _++_, map, append-assoc, append-nil, map-append}
-use mathlib.Core.Option.{Option, none, some}
+use mathlib.Core.List.{List, [], _∷_, _++_, append-assoc, append-nil, map-append}
 use Prim.Native.Nat.{ℕ, zero, suc, _+_, _≤_, _<_}
 use native.Mathlib.Omega.{arith}
 use native.Mathlib.Nat.{le-refl, add-zero}
@@ -11,25 +10,26 @@ use lib.Dec.{eqb, ltb}
 use lib.ListN.{length, take, drop, length-map}
 use lib.Seq.{take-add, drop-drop, take-nil, drop-nil}
 use Rattle.paper.specs.Choice.{if_then_else_}
-use Rattle.paper.specs.Given.{Given, given}
+use Rattle.paper.specs.Given.{Given}
 use Rattle.paper.specs.Settings.{Size, settingsOf, freshSettings}
 use Rattle.paper.specs.Arrival
 use Rattle.paper.specs.Queue.{Slot, Queue, flagNewest, placeItem, place, namesOf}
-use Rattle.paper.specs.Channel.{Channel, fresh, freshFlags, ChannelCall, arrive, line, handedOver, channelStep}
+use Rattle.paper.specs.Channel.{Channel, fresh, freshFlags, ChannelCall, arrived as arrivedAt}
 use Rattle.paper.specs.Card.{Call, on, pick}
 use Rattle.paper.specs.Run.{Named}
 use Rattle.paper.specs.declared.Settings.{Settings}
 use Rattle.paper.specs.declared.Flags.{Flags}
+use Rattle.paper.specs.declared.Outcome.{Outcome}
 use Rattle.paper.specs.declared.Ruling.{Ruling}
 use Rattle.paper.specs.declared.Ruling.the-variants.{Store, StoreNothing}
 use Rattle.paper.specs.declared.Fate.{Fate}
-use Rattle.paper.specs.declared.Fate.the-variants.{Stored, Nothing, Lost}
-use Rattle.demands.specs.History.{isRefused, fateOf, arrivals, Event, arrived, changed, eventsOf, Entry, isReset, NoReset, asks, handedBy, events, countAt, counts, tail, between, Before, beforeAt, befores, arrivalsOn, numbered, Within, empty, Each, nil, cons, NoWorse}
+use Rattle.paper.specs.declared.Fate.the-variants.{Stored, Lost}
+use Rattle.demands.specs.History.{isRefused, fateOf, arrivals, Event, arrived, changed, eventsOf, Entry, isReset, NoReset, asks, handedBy, events, countAt, counts, tail, between, Before, beforeAt, befores, numbered, empty, Each, nil, cons}
 use Rattle.demands.specs.Demands.{history, ReadingMore}
-use Rattle.demands.proofs.Choices.{either}
+use Rattle.demands.proofs.Choices.{chosen}
 use Rattle.demands.proofs.Cases.{Deed, refusal, arrival, reading, change, renewal, showing, sending, deed}
-use Rattle.demands.proofs.Port.{entryOf, entries, callsAt, portCalls, history-is}
-use Rattle.demands.proofs.Queues.{Ruled, push, pushFate, queueBefores, Ahead, Keeps, stays-ahead}
+use Rattle.demands.proofs.Port.{entryOf, entries, portCalls, history-is}
+use Rattle.demands.proofs.Queues.{Ruled, push, pushFate, queueBefores, Keeps, stays-ahead}
 
 -- NAMES that wait
 
@@ -93,6 +93,10 @@ numbers-on n k (on m c ∷ cs) = go (eqb m n) (λ (j : ℕ). numbers-on n j cs)
 
 -- WHAT THE EVENTS RULE, the first arrival numbered k
 
+break-byte : (s : Settings) (f : Flags) (kind b : ℕ) → Arrival.arrival s f kind (if eqb kind 3 then 0 else b) ≡ Arrival.arrival s f kind b
+unfolding Arrival.arrival
+break-byte s f kind b = chosen (λ (c : ℕ). Arrival.arrival s f kind c ≡ Arrival.arrival s f kind b) (eqb kind 3) (λ e. rw e) (λ e. refl)
+
 abbrev rulings : (k : ℕ) → Settings → Flags → List Event → List (Ruled ℕ)
 rulings k s f [] = []
 rulings k s f (arrived kind b ∷ es) =
@@ -148,11 +152,16 @@ module _ (z : Size) where
   follow-one cs ih k j has q m h p e s n (refusal r x) = quietly cs ih k j (omega arith) has q m h e n
   follow-one cs ih k j has q m h p e s n (arrival kind b x) =
       let o = Arrival.arrival (h .settings) (h .flags) kind b in
+      let rest = told j (arrivedAt z k h o .next) cs in
       let p′ : j ≡ suc k = rw (x, add-one) at p in
       ap₂ (λ (fate : Fate) (later : List (Before ℕ)). record { has = has ++ take m q; fate = fate } ∷ later)
       (fate-place (z .depth) k (o .ruling) (h .queue) ∙ ap (pushFate (z .depth) (o .ruling)) e)
       (onward cs ih (suc k) j p′ (has ++ take m q) (push (z .depth) k (o .ruling) (drop m q)) _ 0 0 refl refl _
       (names-place (z .depth) k (o .ruling) (h .queue) ∙ ap (push (z .depth) k (o .ruling)) e) n)
+      ∙ ap
+      (λ (o : Outcome).
+      queueBefores (z .depth) has q (record { name = k; ruling = o .ruling } ∷ rulings (suc k) (h .settings) (o .flags) (events rest)) (m ∷ counts 0 rest))
+      (sym (break-byte (h .settings) (h .flags) kind b))
   follow-one cs ih k j has q m h p e s n (reading count at buffer x) =
       let waits = h .queue .slots in
       let joined : (has ++ take m q) ++ namesOf (take count waits) ≡ has ++ take (m + count) q = rw (append-assoc, names-take, e, take-add) in

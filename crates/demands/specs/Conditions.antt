@@ -1,10 +1,10 @@
 -- 01, "Refusal numbers": the conditions that concern a call, in the paper's order ("Lower numbers first").
 use mathlib.Core.Path.{_≡_}
-use mathlib.Core.Bool.{Bool, true, false}
+use mathlib.Core.Bool.{true, false}
 use mathlib.Core.Logic.{_⊎_, _≢_}
 use mathlib.Core.List.{List, [], _∷_, map}
-use mathlib.Core.Option.{Option, none}
-use Prim.Native.Nat.{ℕ, _+_, _*_, _<_}
+use mathlib.Core.Option.{none}
+use Prim.Native.Nat.{_+_, _*_, _<_}
 use lib.ListN.{length}
 use Rattle.paper.specs.Settings.{Size, settingsOf, Test, tests}
 use Rattle.paper.specs.Transmitter.{Transmitter, LineCall, load, turn, cts, special}

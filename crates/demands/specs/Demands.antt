@@ -1,13 +1,12 @@
 -- THE DEMANDS, each as a type; proofs/ has a proof of each. To be read with 01 beside it.
 use mathlib.Core.Path.{_≡_}
-use mathlib.Core.Bool.{Bool, true, false, not}
+use mathlib.Core.Bool.{true, false, not}
 use mathlib.Core.Logic.{_⊎_, _≢_}
 use mathlib.Core.List.{List, [], _∷_, _++_, map}
-use mathlib.Core.Option.{Option, none, some}
 use Prim.Native.Nat.{ℕ, _≤_, _<_, min}
 use lib.ListN.{length, getD, take}
 use Rattle.paper.specs.Settings.{Size}
-use Rattle.paper.specs.Queue.{oldest, itemsOf, flags}
+use Rattle.paper.specs.Queue.{oldest, itemsOf, overruns}
 use Rattle.paper.specs.Stream.{Character, images, sort, byte, front, Decoded, decode, cleanFront}
 use Rattle.paper.specs.Channel.{Channel, ChannelCall, arrive, read, state, lent, written}
 use Rattle.paper.specs.Card.{Card, freshCard, Call, on, pick, step, at, ready}
@@ -96,7 +95,7 @@ pub record Told : Type 1 where
       → let g = step z a K (on n (read count place buffer)) in
       let out = oldest count (at K n .queue) in
       isRefused (g .answer) ≡ false
-      → (g .answer ≡ Handed (length out) (flags out) (length (images (itemsOf out)))) × (g .lent ≡ written buffer place (images (itemsOf out)))
+      → (g .answer ≡ Handed (length out) (overruns out) (length (images (itemsOf out)))) × (g .lent ≡ written buffer place (images (itemsOf out)))
   pub state : (A : Type 0) (z : Size) (a : A) (K : Card A) (n : ℕ)
       → let h = at K n in
       isRefused (step z a K (on n state) .answer) ≡ false
@@ -186,6 +185,7 @@ pub record Lines : Type 0 where
 pub record Bounds : Type 1 where
   pub fresh : (A : Type 0) (z : Size) → 1 ≤ z .most → Sound {A = A} z freshCard
   pub kept : (A : Type 0) (z : Size) (a : A) (K : Card A) (c : Call) → 1 ≤ z .most → Sound z K → Sound z (step z a K c .next)
+  pub reached : (A : Type 0) (z : Size) (cs : List (Named A Call)) → 1 ≤ z .most → Sound z (end z freshCard cs)
 
 -- ALL OF THEM; proofs/Demands.antt has the proof
 pub record Demands : Type 1 where

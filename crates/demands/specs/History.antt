@@ -1,9 +1,9 @@
 -- The words of the demands, read off a run: what one port was asked, and what it answered.
 use mathlib.Core.Path.{_≡_}
 use mathlib.Core.Bool.{Bool, true, false}
-use mathlib.Core.List.{List, [], _∷_, _++_, map}
+use mathlib.Core.List.{List, [], _∷_, _++_}
 use mathlib.Core.Option.{Option, none, some}
-use Prim.Native.Nat.{ℕ, suc, _+_}
+use Prim.Native.Nat.{ℕ, _+_}
 use lib.Dec.{eqb, ltb}
 use lib.ListN.{take, drop}
 use Rattle.paper.specs.Choice.{if_then_else_}
@@ -87,13 +87,13 @@ placeOf reset = 0
 placeOf state = 0
 placeOf (line c) = 0
 
--- an arrival or a setting change
+-- an arrival or a setting change; a break's byte "is disregarded"
 pub data Event : Type 0 where
   arrived : (kind byte : ℕ) → Event
   changed : List ℕ → Event
 
 abbrev pub eventsOf : ChannelCall → List Event
-eventsOf (arrive k b) = arrived k b ∷ []
+eventsOf (arrive k b) = arrived k (if eqb k 3 then 0 else b) ∷ []
 eventsOf (read n place buffer) = []
 eventsOf (settings l) = changed l ∷ []
 eventsOf reset = []

@@ -1,6 +1,5 @@
 -- The words of the reader's demands: characters, and the streams that stand for them.
 use mathlib.Core.Path.{_≡_}
-use mathlib.Core.Bool.{Bool, true, false}
 use mathlib.Core.List.{List, [], map}
 use Prim.Native.Nat.{ℕ}
 use lib.Dec.{eqb}

@@ -1,6 +1,6 @@
 -- "A card or record here means one that a fresh start and these calls can give: a promise may ask the bounds that make it so".
 use mathlib.Core.Path.{_≡_}
-use mathlib.Core.Option.{Option, none}
+use mathlib.Core.Option.{none}
 use Prim.Native.Nat.{ℕ, _≤_, _<_}
 use lib.ListN.{length}
 use Rattle.paper.specs.Settings.{Size, tests, firstBad}

@@ -1,6 +1,6 @@
 -- A channel, and the calls that name one: 01, "Host and line".
 use mathlib.Core.Bool.{Bool, true, false, not, _||_}
-use mathlib.Core.List.{List, [], _∷_, _++_}
+use mathlib.Core.List.{List, [], _++_}
 use mathlib.Core.Option.{Option, none, some}
 use Prim.Native.Nat.{ℕ, _+_, _*_}
 use lib.Dec.{ltb}
@@ -9,7 +9,7 @@ use Rattle.paper.specs.Choice.{if_then_else_}
 use Rattle.paper.specs.Given.{Given, given, refused}
 use Rattle.paper.specs.Settings.{Size, settingsOf, freshSettings, badField}
 use Rattle.paper.specs.Arrival.{arrival}
-use Rattle.paper.specs.Queue.{Slot, Queue, place, oldest, removed, itemsOf, flags}
+use Rattle.paper.specs.Queue.{Queue, place, oldest, removed, itemsOf, overruns}
 use Rattle.paper.specs.Stream.{images}
 use Rattle.paper.specs.Transmitter.{Transmitter, freshTransmitter, LineCall, lineLent, lineStep}
 use Rattle.paper.specs.declared.Settings.{Settings}
@@ -73,7 +73,7 @@ module _ {A : Type 0} where
       let out = oldest n (h .queue) in
       let bytes = images (itemsOf out) in
       given
-      (Handed (length out) (flags out) (length bytes))
+      (Handed (length out) (overruns out) (length bytes))
       (record { settings = h .settings; flags = h .flags; queue = removed n (h .queue); transmitter = h .transmitter })
       (written buffer place bytes)
 

@@ -1,5 +1,5 @@
 -- 01, "Frame program": hexadecimal lines, frames, answers, and the whole program as a function from input text to output text.
-use mathlib.Core.Bool.{Bool, true, false, _&&_, _||_}
+use mathlib.Core.Bool.{Bool, _&&_}
 use mathlib.Core.List.{List, [], _∷_, _++_}
 use mathlib.Core.Option.{Option, none, some}
 use Prim.Native.Nat.{ℕ, _+_, _-_, _*_, _/_, _%_}
@@ -11,8 +11,6 @@ use Rattle.paper.specs.Settings.{Size}
 use Rattle.paper.specs.Transmitter.{load, turn, cts, special}
 use Rattle.paper.specs.Channel.{arrive, read, settings, reset, state, line}
 use Rattle.paper.specs.Card.{Card, freshCard, Call, on, pick, step}
-use Rattle.paper.specs.declared.Why.{Why}
-use Rattle.paper.specs.declared.Why.the-variants.{FlowSwallowed, DamagedDiscarded, BreakIgnored, EndingDiscarded}
 use Rattle.paper.specs.declared.Fate.{Fate}
 use Rattle.paper.specs.declared.Fate.the-variants.{Stored, Nothing, Lost}
 use Rattle.paper.specs.declared.Refusal.{Refusal}
