@@ -5,8 +5,8 @@ use mathlib.Core.List.{List, [], _∷_, _++_, map, append-nil}
 use Prim.Native.Nat.{ℕ, zero, suc, _+_, _-_, _≤_, _<_}
 use native.Mathlib.Omega.{arith}
 use lib.Dec.{eqb, ltb}
-use lib.ListN.{length, getD, take, drop, length-append}
-use lib.Seq.{take-at, getD-at}
+use lib.ListN.{length, getD, take, drop, length-append, take-append-drop}
+use lib.Seq.{take-at, getD-at, length-take-le}
 use borrow.Author.Tests.{eqb-true, eqb-false, ltb-true, ltb-false}
 use Rattle.paper.specs.Stream.{images, Character, good, damaged, Readout, Open, nothing, mark, markZero, first, readOn, readout}
 use Rattle.paper.specs.Stream.{decodedAs, decode, cleanFront}
@@ -62,12 +62,30 @@ whole markZero (b ∷ s) = ap (λ (l : List ℕ). 0xFF ∷ 0x00 ∷ b ∷ l) (wh
 reads-back : (cs : List Character) → Accepts (stream cs) cs
 reads-back cs = rw append-nil at (read-past cs [] ∙ ap (λ (l : List Character). record { characters = l; rest = [] }) (append-nil cs))
 
+only-images : (s : List ℕ) (cs : List Character) → Accepts s cs → s ≡ stream cs
+only-images s cs h = whole nothing s ∙ rw (h, append-nil)
+
+-- a broken FF stands no further on than any other
+no-later : (s : List ℕ) (p q : ℕ) → FirstBroken s p → FirstBroken s q → p ≤ q
+no-later s p q b c =
+    let front = only-images (take p s) (b .before .0) (b .before .1) in
+    let split : s ≡ stream (b .before .0) ++ drop p s = sym (take-append-drop p s) ∙ ap (λ (l : List ℕ). l ++ drop p s) front in
+    let long : length (take p s) ≡ p = length-take-le p s (omega (arith, b .inside)) in
+    omega (arith, c .no-further (b .before .0) (drop p s) split, ap length front)
+
+unread : (s : List ℕ) (p : ℕ) (cs : List Character) → FirstBroken s p → ¬ Accepts s cs
+unread s p cs b h =
+    let image = only-images s cs h in
+    omega (arith, b .inside, b .no-further cs [] (image ∙ sym (append-nil (stream cs))), ap length image)
+
 pub reader : Reader
 reader =
     record {
       reads-back = reads-back;
-      only-images = λ s cs h. whole nothing s ∙ rw (h, append-nil);
+      only-images = only-images;
       once = λ cs ds h. ap (λ (r : Readout). r .characters) (sym (reads-back cs) ∙ ap readout h ∙ reads-back ds);
+      broken-once = λ s p q b c. let l = no-later s p q b c in let g = no-later s q p c b in omega arith;
+      broken-unread = unread;
     }
 
 -- an item that mark mode can store, and a list of them

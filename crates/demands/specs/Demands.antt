@@ -25,13 +25,31 @@ use Rattle.demands.specs.History.{isRefused, Entry, port, sinceReset, No
 use Rattle.demands.specs.Conditions.{conditions, FirstDue}
 use Rattle.demands.specs.FrameTable.{Calls}
 
--- DEMAND 2: THE READER
+-- DEMAND 1: "Every call answers for every input."
 
--- "reading the stream back gives the characters", and "every stream the reader accepts is the image of exactly one such list"
-pub record Reader : Type 0 where
-  pub reads-back : (cs : List Character) → Accepts (stream cs) cs
-  pub only-images : (s : List ℕ) (cs : List Character) → Accepts s cs → s ≡ stream cs
-  pub once : (cs ds : List Character) → stream cs ≡ stream ds → cs ≡ ds
+abbrev pub lentBy : Call → List ℕ
+lentBy (on n c) = lent c
+lentBy pick = []
+
+-- "refused by a fixed number, with the card and all lent bytes unchanged"; "No refusal is given outside these conditions"
+pub record Refusals : Type 1 where
+  pub unchanged : (A : Type 0) (z : Size) (a : A) (K : Card A) (c : Call)
+      → let g = step z a K c in
+      isRefused (g .answer) ≡ true → (g .next ≡ K) × (g .lent ≡ lentBy c)
+  pub exact : (A : Type 0) (z : Size) (a : A) (K : Card A) (c : Call) → FirstDue (conditions z K c) (step z a K c .answer)
+
+-- "A line that 11 refuses makes no call": a line that spells a frame is answered as its call, and any other by 0B alone
+pub record Lines : Type 0 where
+  pub called : (z : Size) (K : Card Unit) (line : List ℕ) (c : Call) → Calls z line c → reply z K line ≡ answered (step z tt K c)
+  pub refused : (z : Size) (K : Card Unit) (line : List ℕ) → ((c : Call) → ¬ Calls z line c) → reply z K line ≡ record { text = text "0B\n"; next = K }
+
+-- "shown of a fresh one and kept by every call"
+pub record Bounds : Type 1 where
+  pub fresh : (A : Type 0) (z : Size) → 1 ≤ z .most → Sound {A = A} z freshCard
+  pub kept : (A : Type 0) (z : Size) (a : A) (K : Card A) (c : Call) → 1 ≤ z .most → Sound z K → Sound z (step z a K c .next)
+  pub reached : (A : Type 0) (z : Size) (cs : List (Named A Call)) → 1 ≤ z .most → Sound z (end z freshCard cs)
+
+-- DEMAND 2: THE READER
 
 -- "the first such FF is named": it is an FF, what stands before it reads back, and no reading passes it
 pub record FirstBroken (s : List ℕ) (place : ℕ) : Type 0 where
@@ -39,6 +57,15 @@ pub record FirstBroken (s : List ℕ) (place : ℕ) : Type 0 where
   pub inside : place < length s
   pub before : (cs : List Character) × Accepts (take place s) cs
   pub no-further : (cs : List Character) (t : List ℕ) → s ≡ stream cs ++ t → length (stream cs) ≤ place
+
+-- "reading the stream back gives the characters", and "every stream the reader accepts is the image of exactly one such list"; a stream that is not
+-- accepted has one broken FF to name
+pub record Reader : Type 0 where
+  pub reads-back : (cs : List Character) → Accepts (stream cs) cs
+  pub only-images : (s : List ℕ) (cs : List Character) → Accepts s cs → s ≡ stream cs
+  pub once : (cs ds : List Character) → stream cs ≡ stream ds → cs ≡ ds
+  pub broken-once : (s : List ℕ) (p q : ℕ) → FirstBroken s p → FirstBroken s q → p ≡ q
+  pub broken-unread : (s : List ℕ) (p : ℕ) (cs : List Character) → FirstBroken s p → ¬ Accepts s cs
 
 -- the three answers of the reader's call, "9 before 8", with both buffers afterwards
 pub data ReaderGives (s sorts bytes : List ℕ) : Decoded → Type 0 where
@@ -161,32 +188,6 @@ FourPicks =
     ready K n ≡ true → ready K₁ n ≡ true → ready K₂ n ≡ true → ready K₃ n ≡ true
     → (step z a K pick .answer ≡ Picked n) ⊎ ((step z a K₁ pick .answer ≡ Picked n) ⊎ ((step z a K₂ pick .answer ≡ Picked n) ⊎ (step z a K₃ pick .answer ≡ Picked n)))
 
--- DEMAND 1
-
-abbrev pub lentBy : Call → List ℕ
-lentBy (on n c) = lent c
-lentBy pick = []
-
--- "refused by a fixed number, with the card and all lent bytes unchanged"; "No refusal is given outside these conditions"
-pub record Refusals : Type 1 where
-  pub unchanged : (A : Type 0) (z : Size) (a : A) (K : Card A) (c : Call)
-      → let g = step z a K c in
-      isRefused (g .answer) ≡ true → (g .next ≡ K) × (g .lent ≡ lentBy c)
-  pub exact : (A : Type 0) (z : Size) (a : A) (K : Card A) (c : Call) → FirstDue (conditions z K c) (step z a K c .answer)
-
--- "A line that 11 refuses makes no call": a line that spells a frame is answered as its call, and any other by 0B alone
-pub record Lines : Type 0 where
-  pub called : (z : Size) (K : Card Unit) (line : List ℕ) (c : Call) → Calls z line c → reply z K line ≡ answered (step z tt K c)
-  pub refused : (z : Size) (K : Card Unit) (line : List ℕ) → ((c : Call) → ¬ Calls z line c) → reply z K line ≡ record { text = text "0B\n"; next = K }
-
--- BOUNDS
-
--- "shown of a fresh one and kept by every call"
-pub record Bounds : Type 1 where
-  pub fresh : (A : Type 0) (z : Size) → 1 ≤ z .most → Sound {A = A} z freshCard
-  pub kept : (A : Type 0) (z : Size) (a : A) (K : Card A) (c : Call) → 1 ≤ z .most → Sound z K → Sound z (step z a K c .next)
-  pub reached : (A : Type 0) (z : Size) (cs : List (Named A Call)) → 1 ≤ z .most → Sound z (end z freshCard cs)
-
 -- ALL OF THEM; proofs/Demands.antt has the proof
 pub record Demands : Type 1 where
   pub table : Table
@@ -194,6 +195,9 @@ pub record Demands : Type 1 where
   pub whole-case : WholeCase
   pub line-case : LineCase
   pub queue-case : QueueCase
+  pub refusals : Refusals
+  pub lines : Lines
+  pub bounds : Bounds
   pub reader : Reader
   pub reader-call : ReaderCall
   pub clean-front : (s : List ℕ) → CleanFront s
@@ -206,6 +210,3 @@ pub record Demands : Type 1 where
   pub names-unseen : NamesUnseen
   pub isolation : Isolation
   pub four-picks : FourPicks
-  pub refusals : Refusals
-  pub lines : Lines
-  pub bounds : Bounds

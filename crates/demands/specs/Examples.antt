@@ -145,9 +145,9 @@ LineCase =
     ∷ "050002" ⇒ "0A"
     ∷ [])
 
--- A full queue and three picks, worked out by hand: with marking, a damaged character and eleven good ones wait, so a further one is lost, and so
--- is XOFF, which stops the transmitter all the same; a read of eleven finds no flag, and the next finds it on the newest; channels 1 and 2 are
--- picked in turn; a reset clears the loss count
+-- A full queue, and picks, worked out by hand: with marking, a damaged character and eleven good ones wait, so a further one is lost, and so is
+-- XOFF, which stops the transmitter all the same; a read of eleven finds no flag, and the next finds it on the newest; channels 1 and 2 are picked
+-- in turn, then 1 again; read empty, there is none to pick, and the place stays, so that 2 is named before 0; a reset clears the loss count
 abbrev pub QueueCase : Type 0
 QueueCase =
     Answered
@@ -175,6 +175,12 @@ QueueCase =
     ∷ "08" ⇒ "0001"
     ∷ "08" ⇒ "0002"
     ∷ "08" ⇒ "0001"
+    ∷ "02010C" ⇒ "00010041"
+    ∷ "02020C" ⇒ "00010041"
+    ∷ "08" ⇒ "00FF"
+    ∷ "01000041" ⇒ "0000"
+    ∷ "01020041" ⇒ "0000"
+    ∷ "08" ⇒ "0002"
     ∷ "0900" ⇒ "00"
     ∷ "0A00" ⇒ "000000000000"
     ∷ [])
