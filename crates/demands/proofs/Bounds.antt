@@ -20,7 +20,7 @@ use Rattle.paper.specs.Bounds.{SoundChannel, Sound}
 use Rattle.demands.specs.Demands.{Bounds}
 use Rattle.demands.proofs.Choices.{chosen}
 use Rattle.demands.proofs.Cases.{LineDeed, declined, loading, other, Deed, refusal, arrival, reading, change, renewal, showing, sending, deed, by-number, by-pick}
-use Rattle.demands.proofs.Placing.{placed-within}
+use Rattle.demands.proofs.Placing.{placed-fits}
 
 -- "a transmit queue of 12 bytes": load takes what there is room for, and nothing else queues a byte
 line-kept : {t : Transmitter} {c : LineCall} {g : Given Transmitter} → LineDeed t c g
@@ -47,7 +47,7 @@ module _ {A : Type 0} (z : Size) (one : 1 ≤ z .most) where
   channel-kept a h s (refusal r _) = s
   channel-kept a h s (arrival kind b fine) =
       let ruling = Arrival.arrival (h .settings) (h .flags) kind b .ruling in
-      let p = placed-within (z .depth) a ruling (h .queue) (record { waiting = s .waiting; losses = s .losses }) in
+      let p = placed-fits (z .depth) a ruling (h .queue) (record { waiting = s .waiting; losses = s .losses }) in
       record { settings = s .settings; waiting = p .waiting; losses = p .losses; sending = s .sending }
   channel-kept a h s (reading n place buffer room) =
       record { settings = s .settings; waiting = simp length-drop (omega (arith, s .waiting)); losses = s .losses; sending = s .sending }

@@ -70,18 +70,18 @@ module _ (s : Settings) (f : Flags) (t : Transmitter) where
   turn-other (some b) = sent b _ (le-refl (length (t .bytes)))
   turn-other none = either (Other t turn) (held s f t) silent (next-other (t .owed) (t .bytes) (le-refl (length (t .bytes))))
 
-  set : {c : LineCall} (next : Transmitter) → next .bytes ≡ t .bytes → LineDeed t c (given Done next (lineLent c))
-  set next e = other (gives Done next (quiet refl refl) refl (rw e (le-refl (length (t .bytes)))))
+  settled : {c : LineCall} (next : Transmitter) → next .bytes ≡ t .bytes → LineDeed t c (given Done next (lineLent c))
+  settled next e = other (gives Done next (quiet refl refl) refl (rw e (le-refl (length (t .bytes)))))
 
   special-deed : (n : ℕ) (waiting : Option ℕ) → LineDeed t (special n) (specialTaken s t n waiting)
   special-deed n (some b) = declined SpecialWaits
-  special-deed n none = set _ refl
+  special-deed n none = settled _ refl
 
   pub line-deed : (c : LineCall) → LineDeed t c (lineStep s f t c)
   unfolding lineStep
   line-deed (load l) = loading l
   line-deed turn = other (turn-other (t .special))
-  line-deed (cts v) = either (LineDeed t (cts v)) (ltb 1 v) (declined BadCts) (set _ refl)
+  line-deed (cts v) = either (LineDeed t (cts v)) (ltb 1 v) (declined BadCts) (settled _ refl)
   line-deed (special n) = either (LineDeed t (special n)) (ltb n 1 || ltb 4 n) (declined BadSpecial) (special-deed n (t .special))
 
 line-quiet : {t : Transmitter} {c : LineCall} {g : Given Transmitter} → LineDeed t c g → Quiet (g .answer)

@@ -2,12 +2,21 @@
 use mathlib.Core.Path.{refl}
 use Rattle.paper.specs.Settings.{badField}
 use Rattle.paper.specs.Arrival.{goodItem, step1, step2, stripped, woken, step4, step5, flowRuling, step6, ending, step7, good, arrival}
+use Rattle.paper.specs.Stream.{decode, cleanFront}
 use Rattle.paper.specs.Transmitter.{transmitDepth, loaded, lineStep}
 use Rattle.paper.specs.Channel.{noRoom, channelStep}
 use Rattle.paper.specs.Card.{picked, step}
 use Rattle.paper.specs.Frames.{callOf, digit, lineCall}
-use Rattle.demands.specs.Examples.{Table, Endings, WholeCase, LineCase, QueueCase}
+use Rattle.demands.specs.Examples.{Ranges, Crossed, Table, Endings, LossStays, ReadCases, ReaderCases, WholeCase, LineCase, QueueCase}
 use Rattle.demands.specs.Demands.{TwoHosts}
+
+pub ranges : Ranges
+unfolding badField
+ranges = record { lowest = refl; highest = refl; above = refl; below = refl }
+
+pub crossed : Crossed
+unfolding badField
+crossed = refl
 
 pub table : Table
 unfolding badField goodItem step1 step2 stripped woken step4 step5 flowRuling step6 ending step7 good arrival channelStep
@@ -16,6 +25,17 @@ table = refl
 pub endings : Endings
 unfolding badField goodItem step1 step2 stripped woken step4 step5 flowRuling step6 ending step7 good arrival channelStep
 endings = (refl, refl)
+
+pub loss-stays : LossStays
+loss-stays = (refl, refl, refl)
+
+pub read-cases : ReadCases
+unfolding badField goodItem step1 step2 stripped woken step4 step5 flowRuling step6 ending step7 good arrival noRoom channelStep
+read-cases = record { whole = refl; too-short = refl; at-the-end = refl; beyond-it = refl; too-many = refl; inside = refl }
+
+pub reader-cases : ReaderCases
+unfolding decode cleanFront
+reader-cases = record { nothing = refl; whole = refl; broken = refl; cut = refl; cut-later = refl; short = refl; front = refl }
 
 pub whole-case : WholeCase
 unfolding badField goodItem step1 step2 stripped woken step4 step5 flowRuling step6 ending step7 good arrival transmitDepth loaded lineStep noRoom channelStep picked step callOf digit lineCall

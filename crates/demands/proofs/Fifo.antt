@@ -1,6 +1,6 @@
 -- First in, first out, with the overrun flags; and the loss count.
 use mathlib.Core.Path.{_≡_, refl, sym, ap, _∙_}
-use mathlib.Core.Bool.{Bool, true, false}
+use mathlib.Core.Bool.{Bool, true, false, true≢false}
 use mathlib.Core.List.{List, [], _∷_, _++_, append-assoc, append-nil}
 use mathlib.Core.Option.{some}
 use Prim.Native.Nat.{ℕ, _+_, _<_, min}
@@ -15,7 +15,7 @@ use Rattle.paper.specs.Settings.{Size}
 use Rattle.paper.specs.Arrival
 use Rattle.paper.specs.Queue.{Slot, Queue, flagNewest, placeItem, place}
 use Rattle.paper.specs.Transmitter.{LineCall}
-use Rattle.paper.specs.Channel.{Channel, fresh, ChannelCall, settings, line, handedOver}
+use Rattle.paper.specs.Channel.{Channel, fresh, ChannelCall, line, handedOver}
 use Rattle.paper.specs.Run.{Named}
 use Rattle.paper.specs.declared.Ruling.{Ruling}
 use Rattle.paper.specs.declared.Ruling.the-variants.{Store, StoreNothing}
@@ -23,7 +23,7 @@ use Rattle.paper.specs.declared.Answer.{Answer}
 use Rattle.demands.specs.History.{Entry, isReset, isRefused, fateOf, handedBy, handed, itemOf, arrivalItem, lossNow, lossNext, storedAs, stored, lostOne, lost}
 use Rattle.demands.specs.Demands.{FirstInFirstOut, LossCount}
 use Rattle.demands.proofs.Choices.{either}
-use Rattle.demands.proofs.Placing.{Within, placed-within}
+use Rattle.demands.proofs.Placing.{Fits, placed-fits}
 use Rattle.demands.proofs.Cases.{Deed, refusal, arrival, reading, change, renewal, showing, sending, deed}
 use Rattle.demands.proofs.Port.{entryOf, entries, leaves, portCalls, history-is, after-is}
 use Rattle.demands.proofs.Since.{Steady, SteadyRun, since}
@@ -73,7 +73,7 @@ module _ {A : Type 0} where
     where
       go : (l r : List (Slot A)) → drop n l ≡ r → (drop n l ≡ [] → 0 < length l → true ≡ false) → take n l ++ flagNewest (drop n l) ≡ flagNewest l
       go [] r e f = rw (take-nil, drop-nil)
-      go (x ∷ l) [] e f = let w : _≡_ {A = ℕ} 0 1 = cc (f e (omega arith)) in absurd (omega arith)
+      go (x ∷ l) [] e f = absurd (true≢false (f e (omega arith)))
       go (x ∷ l) (y ∷ r) e f = rw e (sym (flag-behind (take n (x ∷ l)) y r) ∙ ap flagNewest (rw e at (take-append-drop n (x ∷ l))))
 
   rejoin : (x u v k w y : List (Slot A)) → u ++ v ≡ k ++ w → x ++ k ≡ y → (x ++ u) ++ v ≡ y ++ w
@@ -113,7 +113,7 @@ module _ {A : Type 0} where
 
     abbrev Law : List (Named A ChannelCall) → Type 0
     Law cs =
-        (h : Channel A) → Within (z .depth) (h .queue) → Steady cs
+        (h : Channel A) → Fits (z .depth) (h .queue) → Steady cs
         → handed (entries z h cs) ++ leaves z h cs .queue .slots ≡ flaggedIf (lossNext (entries z h cs)) (h .queue .slots) ++ stored (entries z h cs)
 
     -- the same behind a call c that gave g
@@ -125,11 +125,11 @@ module _ {A : Type 0} where
         ++ (storedAs (c .name) (fateOf (g .answer)) (arrivalItem h (c .call)) (lossNext rest) ++ stored rest)
 
     law-one : (cs : List (Named A ChannelCall)) → Law cs → (a : A) (h : Channel A) {c : ChannelCall} {g : Given (Channel A)}
-        → Within (z .depth) (h .queue) → isReset c ≡ false → Steady cs → Deed z a h c g → Says h (record { name = a; call = c }) cs g
+        → Fits (z .depth) (h .queue) → isReset c ≡ false → Steady cs → Deed z a h c g → Says h (record { name = a; call = c }) cs g
     law-one cs law a h l e s (refusal r _) = law h l s
     law-one cs law a h l e s (arrival kind b _) =
         let r = Arrival.arrival (h .settings) (h .flags) kind b .ruling in
-        law _ (placed-within (z .depth) a r (h .queue) l) s ∙ placing (z .depth) a r (h .queue) _ _
+        law _ (placed-fits (z .depth) a r (h .queue) l) s ∙ placing (z .depth) a r (h .queue) _ _
     law-one cs law a h l e s (reading n at buffer _) =
         let waits = h .queue .slots in
         let h′ : Channel A = handedOver h n at buffer .next in
@@ -138,7 +138,7 @@ module _ {A : Type 0} where
         (law h′ (record { waiting = simp length-drop (omega (arith, l .waiting)); losses = l .losses }) s)
         (taking n waits t (λ emptied some. no-loss cs h′ emptied (omega (arith, l .waiting))))
     law-one cs law a h l e s (change _ _) = law _ l s
-    law-one cs law a h l e s renewal = let w : _≡_ {A = ℕ} 0 1 = cc in absurd (omega arith)
+    law-one cs law a h l e s renewal = absurd (true≢false e)
     law-one cs law a h l e s showing = law h l s
     law-one cs law a h l e s (sending c g d q) =
         let h′ : Channel A = record { settings = h .settings; flags = h .flags; queue = h .queue; transmitter = g .next } in
@@ -162,19 +162,19 @@ module _ {A : Type 0} where
         go false = omega arith
 
     abbrev Count : List (Named A ChannelCall) → Type 0
-    Count cs = (h : Channel A) → Within (z .depth) (h .queue) → Steady cs → leaves z h cs .queue .losses ≡ min (h .queue .losses + lost (entries z h cs)) 65535
+    Count cs = (h : Channel A) → Fits (z .depth) (h .queue) → Steady cs → leaves z h cs .queue .losses ≡ min (h .queue .losses + lost (entries z h cs)) 65535
 
     count-one : (cs : List (Named A ChannelCall)) → Count cs → (a : A) (h : Channel A) {c : ChannelCall} {g : Given (Channel A)}
-        → Within (z .depth) (h .queue) → isReset c ≡ false → Steady cs → Deed z a h c g
+        → Fits (z .depth) (h .queue) → isReset c ≡ false → Steady cs → Deed z a h c g
         → leaves z (g .next) cs .queue .losses ≡ min (h .queue .losses + (lostOne (fateOf (g .answer)) + lost (entries z (g .next) cs))) 65535
     count-one cs count a h l e s (refusal r _) = count h l s ∙ omega arith
     count-one cs count a h l e s (arrival kind b _) =
         let r = Arrival.arrival (h .settings) (h .flags) kind b .ruling in
-        count _ (placed-within (z .depth) a r (h .queue) l) s ∙ count-placing (z .depth) a r (h .queue) _
+        count _ (placed-fits (z .depth) a r (h .queue) l) s ∙ count-placing (z .depth) a r (h .queue) _
     count-one cs count a h l e s (reading n at buffer _) =
         count _ (record { waiting = simp length-drop (omega (arith, l .waiting)); losses = l .losses }) s ∙ omega arith
     count-one cs count a h l e s (change _ _) = count _ l s ∙ omega arith
-    count-one cs count a h l e s renewal = let w : _≡_ {A = ℕ} 0 1 = cc in absurd (omega arith)
+    count-one cs count a h l e s renewal = absurd (true≢false e)
     count-one cs count a h l e s showing = count h l s ∙ omega arith
     count-one cs count a h l e s (sending c g d q) = rw (q .fateless) (count _ l s ∙ omega arith)
 

@@ -22,7 +22,7 @@ use Rattle.paper.specs.declared.Fate.the-variants.{Stored, Lost}
 use Rattle.paper.specs.declared.Refusal.the-variants.{BadChannel, BadKind, TooMany, NoRoom}
 use Rattle.paper.specs.declared.Answer.{Answer}
 use Rattle.paper.specs.declared.Answer.the-variants.{Fated}
-use Rattle.demands.specs.Demands.{told, NamesUnseen}
+use Rattle.demands.specs.Demands.{seen, NamesUnseen}
 
 -- LISTS
 
@@ -171,7 +171,7 @@ forget a = tt
 
 module _ {A : Type 0} (z : Size) where
   nameless-run : (cs : List (Named A Call)) (K : Card A)
-      → map told (run z K cs) ≡ map told (run z (reCard forget K) (nameless (map (λ (c : Named A Call). c .call) cs)))
+      → map seen (run z K cs) ≡ map seen (run z (reCard forget K) (nameless (map (λ (c : Named A Call). c .call) cs)))
   nameless-run [] K = refl
   nameless-run (c ∷ cs) K = go _ (re-step forget z (c .name) K (c .call)) (nameless-run cs)
     where
@@ -182,8 +182,8 @@ module _ {A : Type 0} (z : Size) where
       rest = nameless (map (λ (c : Named A Call). c .call) cs)
 
       go : (g′ : Given (Card Unit)) → g′ ≡ reGivenCard forget g
-          → ((K : Card A) → map told (run z K cs) ≡ map told (run z (reCard forget K) rest))
-          → (g .answer, g .lent) ∷ map told (run z (g .next) cs) ≡ (g′ .answer, g′ .lent) ∷ map told (run z (g′ .next) rest)
+          → ((K : Card A) → map seen (run z K cs) ≡ map seen (run z (reCard forget K) rest))
+          → (g .answer, g .lent) ∷ map seen (run z (g .next) cs) ≡ (g′ .answer, g′ .lent) ∷ map seen (run z (g′ .next) rest)
       go g′ e ih = rw e (ap (λ (l : List (Answer × List ℕ)). (g .answer, g .lent) ∷ l) (ih (g .next)))
 
 pub names-unseen : NamesUnseen

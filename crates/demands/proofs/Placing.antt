@@ -17,14 +17,14 @@ module _ {A : Type 0} where
   length-flagNewest (x ∷ []) = refl
   length-flagNewest (x ∷ y ∷ l) = ap suc (length-flagNewest (y ∷ l))
 
-  pub record Within (depth : ℕ) (q : Queue A) : Type 0 where
+  pub record Fits (depth : ℕ) (q : Queue A) : Type 0 where
     pub waiting : length (q .slots) ≤ depth
     pub losses : q .losses ≤ 65535
 
-  pub placed-within : (depth : ℕ) (a : A) (r : Ruling) (q : Queue A) → Within depth q → Within depth (place depth a r q .queue)
-  placed-within depth a (StoreNothing w) q b = b
-  placed-within depth a (Store i) q b = go (ltb (length (q .slots)) depth) refl
+  pub placed-fits : (depth : ℕ) (a : A) (r : Ruling) (q : Queue A) → Fits depth q → Fits depth (place depth a r q .queue)
+  placed-fits depth a (StoreNothing w) q b = b
+  placed-fits depth a (Store i) q b = go (ltb (length (q .slots)) depth) refl
     where
-      go : (room : Bool) → ltb (length (q .slots)) depth ≡ room → Within depth (placeItem room i a q .queue)
+      go : (room : Bool) → ltb (length (q .slots)) depth ≡ room → Fits depth (placeItem room i a q .queue)
       go true e = record { waiting = simp length-append (omega (arith, ltb-true)); losses = b .losses }
       go false e = record { waiting = rw length-flagNewest (b .waiting); losses = omega arith }

@@ -1,10 +1,9 @@
 -- DEMAND 2 over whole call sequences: where marking was on at every arrival, the bytes that a host finds read back as the characters handed over.
 use mathlib.Core.Path.{_≡_, refl, sym, ap, ap₂, _∙_, subst⁻¹}
-use mathlib.Core.Bool.{Bool, true, false, _&&_, _||_}
+use mathlib.Core.Bool.{Bool, true, false, _&&_, _||_, true≢false}
 use mathlib.Core.List.{List, [], _∷_, _++_, append-assoc, map-append}
 use mathlib.Core.Option.{Option, none, some}
 use Prim.Native.Nat.{ℕ, zero, suc, _+_, _*_, _≤_}
-use native.Mathlib.Omega.{arith}
 use lib.Dec.{eqb, ltb}
 use lib.ListN.{length, take, drop}
 use lib.Seq.{take-append-seam, drop-at, length-take-le}
@@ -118,7 +117,7 @@ unfolding noRoom
 room n at buffer e = go (ltb (length buffer) at) refl e
   where
     go : (t : Bool) → ltb (length buffer) at ≡ t → (t || ltb (length buffer) (at + 3 * n)) ≡ false → at ≤ length buffer
-    go true f e = let w : _≡_ {A = ℕ} 0 1 = cc in absurd (omega arith)
+    go true f e = absurd (true≢false e)
     go false f e = ltb-false _ _ f
 
 module _ {A : Type 0} where

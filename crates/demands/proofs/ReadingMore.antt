@@ -1,6 +1,6 @@
 -- DEMAND 3: a port's history is that of a bare queue fed with the events' rulings and the counts asked for; and so reading more never loses more.
 use mathlib.Core.Path.{_≡_, refl, sym, ap, ap₂, _∙_, subst⁻¹}
-use mathlib.Core.Bool.{Bool, true, false}
+use mathlib.Core.Bool.{Bool, true, false, true≢false}
 use mathlib.Core.List.{List, [], _∷_, _++_, append-assoc, append-nil, map-append}
 use Prim.Native.Nat.{ℕ, zero, suc, _+_, _≤_, _<_}
 use native.Mathlib.Omega.{arith}
@@ -168,7 +168,7 @@ module _ (z : Size) where
       onward cs ih k j (omega arith) has q _ (m + count) (m + count) joined refl _
       (names-drop count waits ∙ ap (drop count) e ∙ drop-drop count m q) n
   follow-one cs ih k j has q m h p e s n (change l x) = quietly cs ih k j (omega arith) has q m _ e n
-  follow-one cs ih k j has q m h p e s n renewal = let w : _≡_ {A = ℕ} 0 1 = cc in absurd (omega arith)
+  follow-one cs ih k j has q m h p e s n renewal = absurd (true≢false s)
   follow-one cs ih k j has q m h p e s n showing = quietly cs ih k j (omega arith) has q m h e n
   follow-one cs ih k j has q m h p e s n (sending c g d x) = rw (x .fateless) (go (isRefused (g .answer)))
     where

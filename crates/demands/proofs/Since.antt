@@ -1,9 +1,7 @@
 -- The entries since the last reset are those of a fresh channel's run over calls without a reset.
 use mathlib.Core.Path.{_≡_, refl, subst, subst⁻¹}
-use mathlib.Core.Bool.{Bool, true, false}
+use mathlib.Core.Bool.{Bool, true, false, false≢true}
 use mathlib.Core.List.{List, [], _∷_, _++_, append-nil}
-use Prim.Native.Nat.{ℕ}
-use native.Mathlib.Omega.{arith}
 use lib.Seq.{append-snoc}
 use Rattle.paper.specs.Choice.{if_then_else_}
 use Rattle.paper.specs.Settings.{Size}
@@ -25,12 +23,12 @@ module _ {A : Type 0} where
   module _ (z : Size) where
     reset-gives : (a : A) (h : Channel A) (c : ChannelCall) → isReset c ≡ true → channelStep z a h c .next ≡ fresh
     unfolding channelStep
-    reset-gives a h (arrive k b) e = let w : _≡_ {A = ℕ} 0 1 = cc in absurd (omega arith)
-    reset-gives a h (read n place buffer) e = let w : _≡_ {A = ℕ} 0 1 = cc in absurd (omega arith)
-    reset-gives a h (settings l) e = let w : _≡_ {A = ℕ} 0 1 = cc in absurd (omega arith)
+    reset-gives a h (arrive k b) e = absurd (false≢true e)
+    reset-gives a h (read n place buffer) e = absurd (false≢true e)
+    reset-gives a h (settings l) e = absurd (false≢true e)
     reset-gives a h reset e = refl
-    reset-gives a h state e = let w : _≡_ {A = ℕ} 0 1 = cc in absurd (omega arith)
-    reset-gives a h (line c) e = let w : _≡_ {A = ℕ} 0 1 = cc in absurd (omega arith)
+    reset-gives a h state e = absurd (false≢true e)
+    reset-gives a h (line c) e = absurd (false≢true e)
 
     leaves-more : (h : Channel A) (cs ds : List (Named A ChannelCall)) → leaves z h (cs ++ ds) ≡ leaves z (leaves z h cs) ds
     leaves-more h [] ds = refl

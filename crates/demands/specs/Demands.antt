@@ -19,7 +19,7 @@ use Rattle.paper.specs.declared.Fate.the-variants.{Stored, Lost}
 use Rattle.paper.specs.declared.Answer.{Answer}
 use Rattle.paper.specs.declared.Answer.the-variants.{Handed, Shown, Picked}
 use Rattle.demands.specs.Text.{text}
-use Rattle.demands.specs.Examples.{Table, Endings, WholeCase, LineCase, QueueCase}
+use Rattle.demands.specs.Examples.{Ranges, Crossed, Table, Endings, LossStays, ReadCases, ReaderCases, WholeCase, LineCase, QueueCase}
 use Rattle.demands.specs.Marks.{characterOf, stream, Accepts}
 use Rattle.demands.specs.History.{isRefused, Entry, port, sinceReset, NoReset, handed, bytesFound, Marking, stored, lost, events, between, befores, numbered, Each, NoWorse, NoPick}
 use Rattle.demands.specs.Conditions.{conditions, FirstDue}
@@ -154,14 +154,14 @@ TwoHosts =
     × (befores [] (history one 0 (numbered 0 0 (on 0 (arrive 0 65) ∷ on 0 (read 1 0 (0 ∷ 0 ∷ 0 ∷ [])) ∷ on 0 (arrive 0 66) ∷ [])))
     ≡ record { has = []; fate = Stored } ∷ record { has = 0 ∷ []; fate = Stored } ∷ [])
 
--- names, and so the numbering, change no answer and no lent byte
-abbrev pub told : {A : Type 0} → Moment A → Answer × List ℕ
-told m = (m .gave .answer, m .gave .lent)
+-- names, and so the numbering, change no answer and no lent byte: nothing that a caller sees
+abbrev pub seen : {A : Type 0} → Moment A → Answer × List ℕ
+seen m = (m .gave .answer, m .gave .lent)
 
 abbrev pub NamesUnseen : Type 1
 NamesUnseen =
     (A : Type 0) (z : Size) (cs : List (Named A Call))
-    → map told (run z freshCard cs) ≡ map told (run z freshCard (nameless (map (λ (c : Named A Call). c .call) cs)))
+    → map seen (run z freshCard cs) ≡ map seen (run z freshCard (nameless (map (λ (c : Named A Call). c .call) cs)))
 
 -- ONE CHANNEL AND THE OTHERS
 
@@ -190,8 +190,13 @@ FourPicks =
 
 -- ALL OF THEM; proofs/Demands.antt has the proof
 pub record Demands : Type 1 where
+  pub ranges : Ranges
+  pub crossed : Crossed
   pub table : Table
   pub endings : Endings
+  pub loss-stays : LossStays
+  pub read-cases : ReadCases
+  pub reader-cases : ReaderCases
   pub whole-case : WholeCase
   pub line-case : LineCase
   pub queue-case : QueueCase

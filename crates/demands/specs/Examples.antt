@@ -1,21 +1,100 @@
--- 01's examples, and two traces worked out by hand. To be read with 01 beside it.
+-- 01's examples, and others worked out by hand from its sentences. To be read with 01 beside it.
 use mathlib.Core.Path.{_≡_}
 use mathlib.Core.List.{List, [], _∷_, _++_, map}
-use Prim.Native.Nat.{ℕ, _-_}
+use mathlib.Core.Option.{Option, none, some}
+use Prim.Native.Nat.{ℕ, _+_, _-_}
 use Prim.Native.String.{String}
-use lib.ListN.{set}
-use Rattle.paper.specs.Settings.{twelve, freshBytes}
-use Rattle.paper.specs.Queue.{itemsOf}
-use Rattle.paper.specs.Stream.{images}
-use Rattle.paper.specs.Channel.{fresh, arrive, settings, channelStep}
+use lib.ListN.{set, take, replicate}
+use Rattle.paper.specs.Settings.{twelve, freshBytes, badField}
+use Rattle.paper.specs.Queue.{itemsOf, overrun}
+use Rattle.paper.specs.Stream.{images, decode, cleanFront}
+use Rattle.paper.specs.Channel.{Channel, fresh, arrive, read, settings, channelStep}
 use Rattle.paper.specs.Frames.{newline, program}
+use Rattle.paper.specs.declared.Refusal.the-variants.{TooMany, NoRoom, BrokenStream, ShortOutput}
+use Rattle.paper.specs.declared.Reading.the-variants.{Items, Unread}
+use Rattle.paper.specs.declared.Answer.{Answer}
+use Rattle.paper.specs.declared.Answer.the-variants.{Refused, Handed}
 use Rattle.demands.specs.Text.{text}
 
--- ONE ARRIVAL
+-- SETTINGS
 
 -- fresh settings but for a field
 abbrev pub but : (field value : ℕ) → List ℕ → List ℕ
 but field value l = set l (field - 1) value
+
+-- A field with its lowest and its highest value, from the paper's table
+pub record Range : Type 0 where
+  pub field : ℕ
+  pub lowest : ℕ
+  pub highest : ℕ
+
+abbrev pub range : (field lowest highest : ℕ) → Range
+range f l h = record { field = f; lowest = l; highest = h }
+
+abbrev pub ranges : List Range
+ranges =
+    range 1 1 4
+    ∷ range 2 0 1
+    ∷ range 3 0 1
+    ∷ range 4 0 7
+    ∷ range 5 0 2
+    ∷ range 6 0 1
+    ∷ range 7 0 1
+    ∷ range 8 1 12
+    ∷ range 9 0 1
+    ∷ range 10 0 1
+    ∷ range 11 0 255
+    ∷ range 12 0 255
+    ∷ range 13 0 255
+    ∷ range 14 0 255
+    ∷ range 15 0 255
+    ∷ []
+
+-- the bad field of the settings with a value in place of the fresh one
+abbrev pub badWith : (Range → ℕ) → Range → Option ℕ
+badWith value r = badField twelve (but (r .field) (value r) freshBytes)
+
+-- both ends of every range are right; one beyond an end is bad, and it is that field that is reported
+pub record Ranges : Type 0 where
+  pub lowest : map (badWith (λ (r : Range). r .lowest)) ranges ≡ replicate 15 none
+  pub highest : map (badWith (λ (r : Range). r .highest)) ranges ≡ replicate 15 none
+  pub above : map (badWith (λ (r : Range). r .highest + 1)) (take 10 ranges) ≡ map (λ (r : Range). some (r .field)) (take 10 ranges)
+  pub below : badWith (λ (r : Range). 0) (range 1 1 4) ∷ badWith (λ (r : Range). 0) (range 8 1 12) ∷ [] ≡ some 1 ∷ some 8 ∷ []
+
+-- lengths other than 15; the crossed values, which are bad only with field 5, or 5 and 7, on; own ranges first, in field order
+abbrev pub Crossed : Type 0
+Crossed =
+    map (badField twelve)
+    (take 14 freshBytes
+    ∷ (freshBytes ++ 0 ∷ [])
+    ∷ []
+    ∷ but 12 0x11 freshBytes
+    ∷ but 5 1 (but 12 0x11 freshBytes)
+    ∷ but 5 2 (but 12 0x11 freshBytes)
+    ∷ but 5 1 (but 15 0x11 freshBytes)
+    ∷ but 7 1 (but 15 0x11 freshBytes)
+    ∷ but 5 1 (but 7 1 (but 15 0x11 freshBytes))
+    ∷ but 5 2 (but 7 1 (but 15 0x13 freshBytes))
+    ∷ but 5 1 (but 7 1 (but 12 0x11 (but 15 0x11 freshBytes)))
+    ∷ but 10 2 (but 5 1 (but 12 0x11 freshBytes))
+    ∷ but 9 2 (but 3 2 freshBytes)
+    ∷ [])
+    ≡ some 0
+    ∷ some 0
+    ∷ some 0
+    ∷ none
+    ∷ some 12
+    ∷ some 12
+    ∷ none
+    ∷ none
+    ∷ some 15
+    ∷ some 15
+    ∷ some 12
+    ∷ some 10
+    ∷ some 3
+    ∷ []
+
+-- ONE ARRIVAL
 
 -- the stored image of one arrival, under settings
 abbrev pub imageOf : List ℕ → (kind byte : ℕ) → List ℕ
@@ -24,46 +103,54 @@ imageOf l kind b =
     images (itemsOf (channelStep twelve (tt {0}) set (arrive kind b) .next .queue .slots))
 
 -- A row: settings, a kind (0 good, 1 parity, 2 framing, 3 break) and a byte, and the stored image
-pub record Row : Type 0 where
+pub record TableRow : Type 0 where
   pub settings : List ℕ
   pub kind : ℕ
   pub byte : ℕ
   pub image : List ℕ
 
-abbrev pub row : List ℕ → (kind byte : ℕ) → (image : List ℕ) → Row
-row s k b i = record { settings = s; kind = k; byte = b; image = i }
+abbrev pub tableRow : List ℕ → (kind byte : ℕ) → (image : List ℕ) → TableRow
+tableRow s k b i = record { settings = s; kind = k; byte = b; image = i }
 
 -- "Prove these as one table"
-abbrev pub rows : List Row
-rows =
+abbrev pub tableRows : List TableRow
+tableRows =
     -- "good 41: 41"
-    row freshBytes 0 0x41 (0x41 ∷ [])
+    tableRow freshBytes 0 0x41 (0x41 ∷ [])
     -- "Break: 00"
-    ∷ row freshBytes 3 0x00 (0x00 ∷ [])
+    ∷ tableRow freshBytes 3 0x00 (0x00 ∷ [])
     -- "Break, field 2=0: none"
-    ∷ row (but 2 0 freshBytes) 3 0x00 []
+    ∷ tableRow (but 2 0 freshBytes) 3 0x00 []
     -- "Mark, break: FF 00 00"
-    ∷ row (but 1 4 freshBytes) 3 0x00 (0xFF ∷ 0x00 ∷ 0x00 ∷ [])
+    ∷ tableRow (but 1 4 freshBytes) 3 0x00 (0xFF ∷ 0x00 ∷ 0x00 ∷ [])
     -- "Mark, good FF: FF FF"
-    ∷ row (but 1 4 freshBytes) 0 0xFF (0xFF ∷ 0xFF ∷ [])
+    ∷ tableRow (but 1 4 freshBytes) 0 0xFF (0xFF ∷ 0xFF ∷ [])
     -- "Mark and strip, good FF: 7F"
-    ∷ row (but 1 4 (but 3 1 freshBytes)) 0 0xFF (0x7F ∷ [])
+    ∷ tableRow (but 1 4 (but 3 1 freshBytes)) 0 0xFF (0x7F ∷ [])
     -- "Mark and strip, parity C1: FF 00 C1"
-    ∷ row (but 1 4 (but 3 1 freshBytes)) 1 0xC1 (0xFF ∷ 0x00 ∷ 0xC1 ∷ [])
+    ∷ tableRow (but 1 4 (but 3 1 freshBytes)) 1 0xC1 (0xFF ∷ 0x00 ∷ 0xC1 ∷ [])
     -- "Discard, framing 41: none"
-    ∷ row (but 1 2 freshBytes) 2 0x41 []
+    ∷ tableRow (but 1 2 freshBytes) 2 0x41 []
     -- "Null, parity 41: 00"
-    ∷ row (but 1 3 freshBytes) 1 0x41 (0x00 ∷ [])
+    ∷ tableRow (but 1 3 freshBytes) 1 0x41 (0x00 ∷ [])
     -- "Endings 3, NL: 0D"
-    ∷ row (but 4 3 freshBytes) 0 0x0A (0x0D ∷ [])
+    ∷ tableRow (but 4 3 freshBytes) 0 0x0A (0x0D ∷ [])
     -- "Endings 5, NL: 0D"
-    ∷ row (but 4 5 freshBytes) 0 0x0A (0x0D ∷ [])
+    ∷ tableRow (but 4 5 freshBytes) 0 0x0A (0x0D ∷ [])
     -- "Endings 6, CR: none"
-    ∷ row (but 4 6 freshBytes) 0 0x0D []
+    ∷ tableRow (but 4 6 freshBytes) 0 0x0D []
     ∷ []
 
+abbrev pub storedImages : List TableRow → List (List ℕ)
+storedImages [] = []
+storedImages (r ∷ rs) = imageOf (r .settings) (r .kind) (r .byte) ∷ storedImages rs
+
+abbrev pub givenImages : List TableRow → List (List ℕ)
+givenImages [] = []
+givenImages (r ∷ rs) = r .image ∷ givenImages rs
+
 abbrev pub Table : Type 0
-Table = map (λ (r : Row). imageOf (r .settings) (r .kind) (r .byte)) rows ≡ map (λ (r : Row). r .image) rows
+Table = storedImages tableRows ≡ givenImages tableRows
 
 -- 01's table of line endings, for the values 0 to 7: what CR gives, and what NL gives
 abbrev pub Endings : Type 0
@@ -73,6 +160,55 @@ Endings =
     (map (under 0x0D) values ≡ (0x0D ∷ []) ∷ (0x0D ∷ []) ∷ (0x0A ∷ []) ∷ (0x0A ∷ []) ∷ [] ∷ [] ∷ [] ∷ [] ∷ [])
     × (map (under 0x0A) values
     ≡ (0x0A ∷ []) ∷ (0x0D ∷ []) ∷ (0x0A ∷ []) ∷ (0x0D ∷ []) ∷ (0x0A ∷ []) ∷ (0x0D ∷ []) ∷ (0x0A ∷ []) ∷ (0x0D ∷ []) ∷ [])
+
+-- "the loss count rises by 1, staying at 65,535"
+abbrev pub lossAfter : ℕ → ℕ
+lossAfter n = overrun {A = Unit {0}} (record { slots = []; losses = n }) .losses
+
+abbrev pub LossStays : Type 0
+LossStays = (lossAfter 255 ≡ 256) × (lossAfter 65534 ≡ 65535) × (lossAfter 65535 ≡ 65535)
+
+-- READS
+
+-- marking is on, and a damaged 41, a good 42 and a good FF wait
+abbrev pub three : Channel (Unit {0})
+three =
+    let marked = channelStep twelve tt fresh (settings (but 1 4 freshBytes)) .next in
+    let first = channelStep twelve tt marked (arrive 1 0x41) .next in
+    channelStep twelve tt (channelStep twelve tt first (arrive 0 0x42) .next) (arrive 0 0xFF) .next
+
+-- what a read answers, and the lent buffer after it
+abbrev pub readOf : (n place : ℕ) → List ℕ → Answer × List ℕ
+readOf n place buffer =
+    let g = channelStep twelve tt three (read n place buffer) in
+    (g .answer, g .lent)
+
+-- "Read 12 into 36 bytes is served, into 35 refused (4); read 0 at the very end of a buffer is served", and a place beyond it is refused; 13 are too
+-- many before there is no room; what stands before the place and behind the images stays
+pub record ReadCases : Type 0 where
+  pub whole : readOf 12 0 (replicate 36 9) ≡ (Handed 3 0 6, 0xFF ∷ 0x00 ∷ 0x41 ∷ 0x42 ∷ 0xFF ∷ 0xFF ∷ replicate 30 9)
+  pub too-short : readOf 12 0 (replicate 35 9) ≡ (Refused NoRoom, replicate 35 9)
+  pub at-the-end : readOf 0 5 (replicate 5 9) ≡ (Handed 0 0 0, replicate 5 9)
+  pub beyond-it : readOf 0 6 (replicate 5 9) ≡ (Refused NoRoom, replicate 5 9)
+  pub too-many : readOf 13 0 (replicate 5 9) ≡ (Refused TooMany, replicate 5 9)
+  pub inside : readOf 2 1 (1 ∷ 2 ∷ 3 ∷ 4 ∷ 5 ∷ 6 ∷ 7 ∷ 8 ∷ []) ≡ (Handed 2 0 4, 1 ∷ 0xFF ∷ 0x00 ∷ 0x41 ∷ 0x42 ∷ 6 ∷ 7 ∷ 8 ∷ [])
+
+-- MARKED STREAMS
+
+-- what is read, with both buffers afterwards: nothing; a whole stream, into longer buffers; an FF before 01; one cut off; FF 00 cut off; and a broken
+-- stream with an output that is too short, where 9 comes before 8
+pub record ReaderCases : Type 0 where
+  pub nothing : decode [] (7 ∷ []) [] ≡ record { answer = Items 0; sorts = 7 ∷ []; bytes = [] }
+  pub whole : decode (0x41 ∷ 0xFF ∷ 0xFF ∷ 0xFF ∷ 0x00 ∷ 0x42 ∷ []) (replicate 6 9) (replicate 7 8)
+      ≡ record { answer = Items 3; sorts = 0 ∷ 0 ∷ 1 ∷ 9 ∷ 9 ∷ 9 ∷ []; bytes = 0x41 ∷ 0xFF ∷ 0x42 ∷ 8 ∷ 8 ∷ 8 ∷ 8 ∷ [] }
+  pub broken : decode (0x41 ∷ 0xFF ∷ 0x01 ∷ 0xFF ∷ []) (replicate 4 9) (replicate 4 8)
+      ≡ record { answer = Unread (BrokenStream 1); sorts = replicate 4 9; bytes = replicate 4 8 }
+  pub cut : decode (0xFF ∷ []) (9 ∷ []) (8 ∷ []) ≡ record { answer = Unread (BrokenStream 0); sorts = 9 ∷ []; bytes = 8 ∷ [] }
+  pub cut-later : decode (0x41 ∷ 0xFF ∷ 0x00 ∷ []) (replicate 3 9) (replicate 3 8)
+      ≡ record { answer = Unread (BrokenStream 1); sorts = replicate 3 9; bytes = replicate 3 8 }
+  pub short : decode (0x41 ∷ 0xFF ∷ 0x01 ∷ []) (replicate 3 9) (replicate 2 8)
+      ≡ record { answer = Unread ShortOutput; sorts = replicate 3 9; bytes = replicate 2 8 }
+  pub front : cleanFront (0x41 ∷ 0x42 ∷ 0xFF ∷ 0x43 ∷ []) ≡ 0x41 ∷ 0x42 ∷ []
 
 -- TRACES
 
@@ -121,7 +257,8 @@ WholeCase =
 
 -- "Line turn" and "Special", sentence by sentence, worked out by hand: CTS holds the NL and A that were loaded, and special 3 goes all the same; a
 -- second special is refused while it waits; with CTS the NL goes out as CR, and special 1 between it and its NL; field 10 is turned off, and the
--- owed NL does not count in the state and is sent; then A, then nothing; special 0 and 5, and CTS 2, are refused
+-- owed NL does not count in the state and is sent; then A, then nothing; special 0 and 5, and CTS 2, are refused; of thirteen bytes twelve are
+-- taken, then none of one, and none of none
 abbrev pub LineCase : Type 0
 LineCase =
     Answered
@@ -143,6 +280,10 @@ LineCase =
     ∷ "060000" ⇒ "06"
     ∷ "060005" ⇒ "06"
     ∷ "050002" ⇒ "0A"
+    ∷ "03004142434445464748494A4B4C4D" ⇒ "000C"
+    ∷ "03004E" ⇒ "0000"
+    ∷ "0300" ⇒ "0000"
+    ∷ "0A00" ⇒ "00000C000000"
     ∷ [])
 
 -- A full queue, and picks, worked out by hand: with marking, a damaged character and eleven good ones wait, so a further one is lost, and so is

@@ -42,7 +42,7 @@ fateNumber Lost = 2
 
 -- "Answers begin with 00 or the refusal number (5 is followed by its field), then: fate; or characters, flagged, bytes; or taken; or 00, or 01
 -- and the byte sent; or the channel picked, FF for none; or waiting, transmit waiting, stopped, loss high, loss low. Served frames 05, 06, 07
--- and 09 answer 00 alone." lent: the bytes lent to a read, as it left them
+-- and 09 answer 00 alone." lent: the buffer of a read at place 0, as frame 02 has it, after the read
 abbrev pub numbers : Answer → (lent : List ℕ) → List ℕ
 numbers (answers.Refused r) lent = refusalNumbers r
 numbers (answers.Fated f) lent = 0x00 ∷ fateNumber f ∷ []
