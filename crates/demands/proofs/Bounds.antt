@@ -30,18 +30,18 @@ line-kept (declined r) h = h
 line-kept (loading l) h = simp (length-append, length-take) (omega arith)
 line-kept (other o) h = omega (arith, o .short)
 
-fresh-settings : (z : Size) → 1 ≤ z .most → firstBad (tests z freshSettings) ≡ none
-fresh-settings z h = rw (le-ltb (z .most) 1 h)
+fresh-settings : (most : ℕ) → 1 ≤ most → firstBad (tests most freshSettings) ≡ none
+fresh-settings most h = rw (le-ltb most 1 h)
 
-taken-settings : (z : Size) (l : List ℕ) → badField z l ≡ none → firstBad (tests z (settingsOf l)) ≡ none
+taken-settings : (most : ℕ) (l : List ℕ) → badField most l ≡ none → firstBad (tests most (settingsOf l)) ≡ none
 unfolding badField
-taken-settings z l =
-    chosen (λ (o : Option ℕ). o ≡ none → firstBad (tests z (settingsOf l)) ≡ none) (eqb (length l) 15)
+taken-settings most l =
+    chosen (λ (o : Option ℕ). o ≡ none → firstBad (tests most (settingsOf l)) ≡ none) (eqb (length l) 15)
     (λ long e. e) (λ short e. absurd (Option·some-ne-none 0 e))
 
 module _ {A : Type 0} (z : Size) (one : 1 ≤ z .most) where
   fresh-channel : SoundChannel {A = A} z fresh
-  fresh-channel = record { settings = fresh-settings z one; waiting = omega arith; losses = omega arith; sending = omega arith }
+  fresh-channel = record { settings = fresh-settings (z .most) one; waiting = omega arith; losses = omega arith; sending = omega arith }
 
   channel-kept : (a : A) (h : Channel A) → SoundChannel z h → {c : ChannelCall} {g : Given (Channel A)} → Deed z a h c g → SoundChannel z (g .next)
   channel-kept a h s (refusal r _) = s
@@ -52,7 +52,7 @@ module _ {A : Type 0} (z : Size) (one : 1 ≤ z .most) where
   channel-kept a h s (reading n place buffer room) =
       record { settings = s .settings; waiting = simp length-drop (omega (arith, s .waiting)); losses = s .losses; sending = s .sending }
   channel-kept a h s (change l fine) =
-      record { settings = taken-settings z l fine; waiting = s .waiting; losses = s .losses; sending = s .sending }
+      record { settings = taken-settings (z .most) l fine; waiting = s .waiting; losses = s .losses; sending = s .sending }
   channel-kept a h s renewal = fresh-channel
   channel-kept a h s showing = s
   channel-kept a h s (sending c g d q) =

@@ -96,7 +96,7 @@ pub data Deed {A : Type 0} (z : Size) (a : A) (h : Channel A) : ChannelCall → 
   refusal : {c : ChannelCall} (r : Refusal) → arrivals c ≡ 0 → Deed z a h c (refused r h (lent c))
   arrival : (kind b : ℕ) → ltb 3 kind ≡ false → Deed z a h (arrive kind b) (arrived z a h (Arrival.arrival (h .settings) (h .flags) kind b))
   reading : (n place : ℕ) (buffer : List ℕ) → noRoom n place buffer ≡ false → Deed z a h (read n place buffer) (handedOver h n place buffer)
-  change : (l : List ℕ) → badField z l ≡ none → Deed z a h (settings l) (settingsTaken h l none)
+  change : (l : List ℕ) → badField (z .most) l ≡ none → Deed z a h (settings l) (settingsTaken h l none)
   renewal : Deed z a h reset (given Done fresh [])
   showing : Deed z a h state (given (shown h) h [])
   sending : (c : LineCall) (g : Given Transmitter) → LineDeed (h .transmitter) c g → Quiet (g .answer)
@@ -109,7 +109,7 @@ module _ {A : Type 0} (z : Size) (a : A) (h : Channel A) where
       let P = Deed z a h (read n place buffer) in
       either P (ltb (z .most) n) (refusal TooMany refl) (chosen P (noRoom n place buffer) (λ e. refusal NoRoom refl) (reading n place buffer))
 
-  deed-settings : (l : List ℕ) (o : Option ℕ) → badField z l ≡ o → Deed z a h (settings l) (settingsTaken h l o)
+  deed-settings : (l : List ℕ) (o : Option ℕ) → badField (z .most) l ≡ o → Deed z a h (settings l) (settingsTaken h l o)
   deed-settings l (some field) e = refusal (BadField field) refl
   deed-settings l none e = change l e
 
@@ -121,7 +121,7 @@ module _ {A : Type 0} (z : Size) (a : A) (h : Channel A) where
   unfolding channelStep
   deed (arrive kind b) = chosen (Deed z a h (arrive kind b)) (ltb 3 kind) (λ e. refusal BadKind (rw e)) (arrival kind b)
   deed (read n place buffer) = deed-read n place buffer
-  deed (settings l) = deed-settings l (badField z l) refl
+  deed (settings l) = deed-settings l (badField (z .most) l) refl
   deed reset = renewal
   deed state = showing
   deed (line c) = deed-line c

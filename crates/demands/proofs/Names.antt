@@ -131,7 +131,7 @@ module _ {A B : Type 0} (f : A → B) where
         go true u = refl
         go false true = refl
         go false false = re-handed h n at buffer
-    re-channelStep h (settings l) = re-settings h l (badField z l)
+    re-channelStep h (settings l) = re-settings h l (badField (z .most) l)
     re-channelStep h reset = refl
     re-channelStep h state = rw length-map
     re-channelStep h (line c) = refl

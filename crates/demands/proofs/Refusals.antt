@@ -97,7 +97,7 @@ module _ {A : Type 0} (z : Size) (a : A) where
       λ inside room. later (⊎-elim (omega (arith, ltb-false)) (omega (arith, ltb-false))) (served refl))
   channel-exact h (settings l) =
       chosen (λ o. Exact (channelConditions z h (settings l)) (settingsTaken h l o)) (eqb (length l) 15)
-      (λ e. later (λ (other : length l ≢ 15). other (eqb-true _ _ e)) (firstBad-exact h l (tests z (settingsOf l))))
+      (λ e. later (λ (other : length l ≢ 15). other (eqb-true _ _ e)) (firstBad-exact h l (tests (z .most) (settingsOf l))))
       (λ e. here (eqb-false _ _ e))
   channel-exact h reset = served refl
   channel-exact h state = served refl

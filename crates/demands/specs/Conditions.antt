@@ -37,7 +37,7 @@ abbrev pub channelConditions : {A : Type 0} → Size → Channel A → ChannelCa
 channelConditions z h (arrive kind b) = due BadKind (3 < kind) ∷ []
 channelConditions z h (read n place buffer) =
     due TooMany (z .most < n) ∷ due NoRoom ((length buffer < place + 3 * n) ⊎ (length buffer < place)) ∷ []
-channelConditions z h (settings l) = due (BadField 0) (length l ≢ 15) ∷ map fieldCondition (tests z (settingsOf l))
+channelConditions z h (settings l) = due (BadField 0) (length l ≢ 15) ∷ map fieldCondition (tests (z .most) (settingsOf l))
 channelConditions z h reset = []
 channelConditions z h state = []
 channelConditions z h (line c) = lineConditions (h .transmitter) c

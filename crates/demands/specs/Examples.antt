@@ -52,7 +52,7 @@ ranges =
 
 -- the bad field of the settings with a value in place of the fresh one
 abbrev pub badWith : (Range → ℕ) → Range → Option ℕ
-badWith value r = badField twelve (but (r .field) (value r) freshBytes)
+badWith value r = badField (twelve .most) (but (r .field) (value r) freshBytes)
 
 -- both ends of every range are right; one beyond an end is bad, and it is that field that is reported
 pub record Ranges : Type 0 where
@@ -64,7 +64,7 @@ pub record Ranges : Type 0 where
 -- lengths other than 15; the crossed values, which are bad only with field 5, or 5 and 7, on; own ranges first, in field order
 abbrev pub Crossed : Type 0
 Crossed =
-    map (badField twelve)
+    map (badField (twelve .most))
     (take 14 freshBytes
     ∷ (freshBytes ++ 0 ∷ [])
     ∷ []
