@@ -1,0 +1,171 @@
+// The receive queue by value: the oldest item stands at place 0, and unused places hold zeros.
+ghost use mathlib.Core.Path.{_≡_};
+ghost use Prim.Native.Nat.{_+_, _*_, _<_, _≤_, min};
+ghost use lib.ListN.{length};
+ghost use Rattle.paper.specs.Queue as model;
+ghost use Rattle.paper.specs.Queue.{oldest, itemsOf};
+ghost use Rattle.paper.specs.Stream.{images};
+ghost use Rattle.paper.specs.Channel.{written};
+ghost use Rattle.queue.specs.Held.{depth, empty, queueOf, queueIn, Sound, placing, ones, handing};
+use paper::Fate;
+use paper::Item;
+use paper::Ruling;
+
+pub struct Queue {
+    // 0 plain, 1 doubled, 2 damaged
+    pub kinds: [u8; Queue::DEPTH],
+    pub bytes: [u8; Queue::DEPTH],
+    // 1 where the item has the overrun flag
+    pub flags: [u8; Queue::DEPTH],
+    pub count: usize,
+    pub losses: u16,
+}
+
+// An arrival's fate, and the queue after it.
+pub struct Placed {
+    pub fate: Fate,
+    pub queue: Queue,
+}
+
+// "the characters removed, how many had the overrun flag, and the bytes written", and the queue after a read.
+pub struct Handed {
+    pub characters: usize,
+    pub flagged: usize,
+    pub bytes: usize,
+    pub queue: Queue,
+}
+
+// How many of the flags are set.
+fn count_flags(flags: &[u8]) -> usize
+    ensures { λ r. ⌜ r ≡ ones (now (flags .entry)) ⌝ }
+{
+    let mut sum: usize = 0;
+    let mut i: usize = 0;
+    while i < flags.len() {
+        if flags[i] == 1 {
+            sum += 1;
+        }
+        i += 1;
+    }
+    sum
+}
+
+fn least(a: usize, b: usize) -> usize
+    ensures { λ r. ⌜ r ≡ min a b ⌝ }
+{
+    if a < b { a } else { b }
+}
+
+impl Queue {
+    pub const DEPTH: usize = 12;
+
+    // "queues empty, ... loss count 0"
+    pub fn fresh() -> Queue
+        ensures { λ r. ⌜ r ≡ queueOf depth empty ⌝ }
+    {
+        Queue {
+            kinds: [0u8; Queue::DEPTH],
+            bytes: [0u8; Queue::DEPTH],
+            flags: [0u8; Queue::DEPTH],
+            count: 0,
+            losses: 0,
+        }
+    }
+
+    fn store(mut self, item: Item) -> Queue
+        requires { ⌜ (Sound depth depth self) × (self .count < depth) ⌝ }
+        ensures { λ r. ⌜ r ≡ queueOf depth (model.stored item tt (queueIn self)) ⌝ }
+    {
+        let newest = self.count;
+        self.kinds[newest] = images::kind_of(item);
+        self.bytes[newest] = images::byte_of(item);
+        self.flags[newest] = 0;
+        self.count = newest + 1;
+        self
+    }
+
+    // "the new one is lost, the newest waiting item gets the overrun flag ... and the loss count rises by 1, staying at 65,535"
+    fn overrun(mut self) -> Queue
+        requires { ⌜ (Sound depth depth self) × (0 < self .count) ⌝ }
+        ensures { λ r. ⌜ r ≡ queueOf depth (model.overrun (queueIn self)) ⌝ }
+    {
+        let newest = self.count - 1;
+        self.flags[newest] = 1;
+        if self.losses < 65535 {
+            self.losses += 1;
+            return self;
+        }
+        self
+    }
+
+    // "If 12 items wait, the new one is lost"
+    fn place_item(self, item: Item) -> Placed
+        requires { ⌜ Sound depth depth self ⌝ }
+        ensures { λ r. ⌜ r ≡ placing depth depth self (Ruling.Store item) ⌝ }
+    {
+        if self.count < Queue::DEPTH {
+            return Placed {
+                fate: Fate::Stored,
+                queue: self.store(item),
+            };
+        }
+        Placed {
+            fate: Fate::Lost,
+            queue: self.overrun(),
+        }
+    }
+
+    // What an arrival's ruling does to the queue.
+    pub fn place(self, ruling: Ruling) -> Placed
+        requires { ⌜ Sound depth depth self ⌝ }
+        ensures { λ r. ⌜ r ≡ placing depth depth self ruling ⌝ }
+    {
+        match ruling {
+            Ruling::Store(item) => self.place_item(item),
+            Ruling::StoreNothing(why) => Placed {
+                fate: Fate::Nothing(why),
+                queue: self,
+            },
+        }
+    }
+
+    // The oldest n leave.
+    fn remove(self, n: usize) -> Queue
+        requires { ⌜ (Sound depth depth self) × (n ≤ self .count) ⌝ }
+        ensures { λ r. ⌜ r ≡ queueOf depth (model.removed n (queueIn self)) ⌝ }
+    {
+        let mut kinds = self.kinds;
+        let mut bytes = self.bytes;
+        let mut flags = self.flags;
+        arrays::close_up(&mut kinds, n);
+        arrays::close_up(&mut bytes, n);
+        arrays::close_up(&mut flags, n);
+        Queue {
+            kinds,
+            bytes,
+            flags,
+            count: self.count - n,
+            losses: self.losses,
+        }
+    }
+
+    // "removes the oldest min(n, waiting) items and writes their images into the lent buffer from a given place on"
+    pub fn hand_over(self, n: usize, buffer: &mut [u8], place: usize) -> Handed
+        requires { ⌜ (Sound depth depth self) × (place + 3 * n ≤ length (now buffer)) ⌝ }
+        ensures { λ r. ⌜ (r ≡ handing depth self n) × (now (buffer .exit) ≡ written (now (buffer .entry)) place (images (itemsOf (oldest n (queueIn self))))) ⌝ }
+    {
+        let characters = least(n, self.count);
+        let kinds = self.kinds;
+        let bytes = self.bytes;
+        let flags = self.flags;
+        let flagged = count_flags(&flags[..characters]);
+        let long = images::put_images(&kinds[..characters], &bytes[..characters], buffer, place);
+        let queue = self.remove(characters);
+        Handed {
+            characters,
+            flagged,
+            bytes: long,
+            queue,
+        }
+    }
+}
