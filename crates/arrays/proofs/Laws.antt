@@ -1,5 +1,5 @@
 -- Arrays whose unused places hold zeros, at any number of places.
-use mathlib.Core.Path.{_≡_, ap, sym, subst, _∙_}
+use mathlib.Core.Path.{_≡_, refl, ap, sym, subst, _∙_}
 use mathlib.Core.List.{List, [], _∷_, _++_, append-assoc, append-nil}
 use Prim.Native.Nat.{ℕ, suc, _+_, _-_, _≤_, _<_}
 use native.Mathlib.Omega.{arith}
@@ -9,6 +9,10 @@ use lib.ListN.{length, take, drop, set, getD, replicate, length-append, length-t
 use lib.Seq.{set-append-seam, set-append-left, drop-append-le, getD-drop, getD-append-add, drop-cons, take-suc, set-at, take-at, length-take-le, take-all}
 use Rattle.arrays.specs.Padded.{padded}
 
+-- all the places
+pub padded-length : (places : ℕ) (l : List ℕ) → length l ≤ places → length (padded places l) ≡ places
+padded-length places l h = simp (length-append, length-replicate) (omega arith)
+
 -- one more element, in the first unused place
 pub padded-put : (places : ℕ) (l : List ℕ) (a : ℕ) → length l < places → set (padded places l) (length l) a ≡ padded places (l ++ a ∷ [])
 padded-put places l a h =
@@ -16,9 +20,21 @@ padded-put places l a h =
     let f : places - length (l ++ a ∷ []) ≡ places - suc (length l) = omega (arith, length-append l (a ∷ [])) in
     rw (e, f, set-append-seam, append-assoc)
 
+-- the elements of another list behind l, one after the other
+pub padded-more : (places : ℕ) (l new : List ℕ) (i : ℕ) → length l + i < places → i < length new
+    → set (padded places (l ++ take i new)) (length l + i) (getD new i 0) ≡ padded places (l ++ take (i + 1) new)
+padded-more places l new i h k =
+    let e : length (l ++ take i new) ≡ length l + i = omega (arith, length-append l (take i new), length-take-le i new (omega arith)) in
+    rw (add-one, take-suc new i 0, ← append-assoc, ← e) (padded-put places (l ++ take i new) (getD new i 0) (omega arith))
+
 -- another element in a used place
 pub padded-set : (places : ℕ) (l : List ℕ) (i a : ℕ) → i < length l → set (padded places l) i a ≡ padded places (set l i a)
 padded-set places l i a h = rw (set-append-left, length-set)
+
+-- the first element stands at place 0
+pub padded-head : (places : ℕ) (l : List ℕ) → 0 < length l → l ≡ getD (padded places l) 0 0 ∷ drop 1 l
+padded-head places [] h = absurd (omega arith)
+padded-head places (a ∷ l) h = refl
 
 -- the first n elements gone
 pub padded-drop : (places n : ℕ) (l : List ℕ) → n ≤ length l → length l ≤ places

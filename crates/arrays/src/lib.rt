@@ -1,7 +1,7 @@
-// Arrays of bytes whose unused places hold zeros.
+// Arrays of bytes whose unused places hold zeros, and how many of them are used.
 ghost use mathlib.Core.Path.{_≡_};
 ghost use mathlib.Core.List.{_++_};
-ghost use Prim.Native.Nat.{_-_, _≤_};
+ghost use Prim.Native.Nat.{_-_, _≤_, min};
 ghost use lib.ListN.{length, take, drop, replicate};
 
 // Zeros from a place on.
@@ -28,4 +28,11 @@ pub fn close_up(places: &mut [u8], n: usize)
         i += 1;
     }
     clear_from(places, kept);
+}
+
+// The smaller of two counts.
+pub fn least(a: usize, b: usize) -> usize
+    ensures { λ r. ⌜ r ≡ min a b ⌝ }
+{
+    if a < b { a } else { b }
 }

@@ -13,7 +13,7 @@ use Rattle.paper.specs.Settings.{Size, settingsOf, freshSettings, tests, firstB
 use Rattle.paper.specs.Transmitter.{Transmitter, LineCall, transmitDepth, loaded}
 use Rattle.paper.specs.Given.{Given}
 use Rattle.paper.specs.Arrival
-use Rattle.paper.specs.Channel.{Channel, fresh, ChannelCall}
+use Rattle.paper.specs.Channel.{Channel, fresh, ChannelCall, channelStep}
 use Rattle.paper.specs.Card.{Card, freshCard, Call, on, pick, step, at, with}
 use Rattle.paper.specs.Run.{Named, end}
 use Rattle.paper.specs.Bounds.{SoundChannel, Sound}
@@ -40,23 +40,26 @@ taken-settings most l =
     (λ long e. e) (λ short e. absurd (Option·some-ne-none 0 e))
 
 module _ {A : Type 0} (z : Size) (one : 1 ≤ z .most) where
-  fresh-channel : SoundChannel {A = A} z fresh
+  pub fresh-channel : SoundChannel {A = A} z fresh
   fresh-channel = record { settings = fresh-settings (z .most) one; waiting = omega arith; losses = omega arith; sending = omega arith }
 
-  channel-kept : (a : A) (h : Channel A) → SoundChannel z h → {c : ChannelCall} {g : Given (Channel A)} → Deed z a h c g → SoundChannel z (g .next)
-  channel-kept a h s (refusal r _) = s
-  channel-kept a h s (arrival kind b fine) =
+  deed-kept : (a : A) (h : Channel A) → SoundChannel z h → {c : ChannelCall} {g : Given (Channel A)} → Deed z a h c g → SoundChannel z (g .next)
+  deed-kept a h s (refusal r _) = s
+  deed-kept a h s (arrival kind b fine) =
       let ruling = Arrival.arrival (h .settings) (h .flags) kind b .ruling in
       let p = placed-fits (z .depth) a ruling (h .queue) (record { waiting = s .waiting; losses = s .losses }) in
       record { settings = s .settings; waiting = p .waiting; losses = p .losses; sending = s .sending }
-  channel-kept a h s (reading n place buffer room) =
+  deed-kept a h s (reading n place buffer room) =
       record { settings = s .settings; waiting = simp length-drop (omega (arith, s .waiting)); losses = s .losses; sending = s .sending }
-  channel-kept a h s (change l fine) =
+  deed-kept a h s (change l fine) =
       record { settings = taken-settings (z .most) l fine; waiting = s .waiting; losses = s .losses; sending = s .sending }
-  channel-kept a h s renewal = fresh-channel
-  channel-kept a h s showing = s
-  channel-kept a h s (sending c g d q) =
+  deed-kept a h s renewal = fresh-channel
+  deed-kept a h s showing = s
+  deed-kept a h s (sending c g d q) =
       record { settings = s .settings; waiting = s .waiting; losses = s .losses; sending = line-kept d (s .sending) }
+
+  pub channel-kept : (a : A) (h : Channel A) (c : ChannelCall) → SoundChannel z h → SoundChannel z (channelStep z a h c .next)
+  channel-kept a h c s = deed-kept a h s (deed z a h c)
 
   -- a card with a sound channel in place of one of its own
   with-sound : (K : Card A) → Sound z K → (n : ℕ) → n ≤ 3 → (h : Channel A) → SoundChannel z h → Sound z (with K n h)
@@ -66,14 +69,14 @@ module _ {A : Type 0} (z : Size) (one : 1 ≤ z .most) where
       each m l true e = rw (eqb-true m n e, getD-set-same (K .channels) n h fresh (omega arith)) sound
       each m l false e = rw (getD-set-other (K .channels) n m h fresh (eqb-false m n e)) (s .each m l)
 
-  kept : (a : A) (K : Card A) (c : Call) → Sound z K → Sound z (step z a K c .next)
+  pub kept : (a : A) (K : Card A) (c : Call) → Sound z K → Sound z (step z a K c .next)
   kept a K (on n c) s =
       by-number z a K (λ g. Sound z (g .next)) n c (λ above. s) λ small.
-      with-sound K s n small _ (channel-kept a (at K n) (s .each n (omega arith)) (deed z a (at K n) c))
+      with-sound K s n small _ (channel-kept a (at K n) c (s .each n (omega arith)))
   kept a K pick s =
       by-pick z a K (λ g. Sound z (g .next)) s (λ n small. record { four = s .four; each = s .each; place = small })
 
-  fresh-card : Sound {A = A} z freshCard
+  pub fresh-card : Sound {A = A} z freshCard
   fresh-card =
       record { four = refl; each = λ n l. rw (getD-replicate 4 n (fresh {A = A}) fresh l) fresh-channel; place = omega arith }
 

@@ -10,51 +10,9 @@ use Rattle.paper.specs.Given.{Given, refused}
 use Rattle.paper.specs.Settings.{Size}
 use Rattle.paper.specs.Transmitter.{load, turn, cts, special}
 use Rattle.paper.specs.Channel.{arrive, read, settings, reset, state, line}
+use Rattle.paper.specs.Numbers.{numbers}
 use Rattle.paper.specs.Card.{Card, freshCard, Call, on, pick, step}
-use Rattle.paper.specs.declared.Fate.{Fate}
-use Rattle.paper.specs.declared.Fate.the-variants.{Stored, Nothing, Lost}
-use Rattle.paper.specs.declared.Refusal.{Refusal}
-use Rattle.paper.specs.declared.Refusal.the-variants.{BadChannel, BadKind, TooMany, NoRoom, BadField, BadSpecial, SpecialWaits, BrokenStream, ShortOutput, BadCts, BadLine}
-use Rattle.paper.specs.declared.Answer.{Answer}
-use Rattle.paper.specs.declared.Answer.the-variants as answers
-
--- THE PAPER'S NUMBERS FOR EACH ANSWER
-
--- "Refusal numbers"; "5 is followed by its field", 8 by "the place of the offending FF"
-abbrev pub refusalNumbers : Refusal → List ℕ
-refusalNumbers BadChannel = 1 ∷ []
-refusalNumbers BadKind = 2 ∷ []
-refusalNumbers TooMany = 3 ∷ []
-refusalNumbers NoRoom = 4 ∷ []
-refusalNumbers (BadField field) = 5 ∷ field ∷ []
-refusalNumbers BadSpecial = 6 ∷ []
-refusalNumbers SpecialWaits = 7 ∷ []
-refusalNumbers (BrokenStream place) = 8 ∷ place ∷ []
-refusalNumbers ShortOutput = 9 ∷ []
-refusalNumbers BadCts = 10 ∷ []
-refusalNumbers BadLine = 11 ∷ []
-
--- "0 stored, 1 nothing to store, 2 lost"
-abbrev pub fateNumber : Fate → ℕ
-fateNumber Stored = 0
-fateNumber (Nothing why) = 1
-fateNumber Lost = 2
-
--- "Answers begin with 00 or the refusal number (5 is followed by its field), then: fate; or characters, flagged, bytes; or taken; or 00, or 01
--- and the byte sent; or the channel picked, FF for none; or waiting, transmit waiting, stopped, loss high, loss low. Served frames 05, 06, 07
--- and 09 answer 00 alone." lent: the buffer of a read at place 0, as frame 02 has it, after the read
-abbrev pub numbers : Answer → (lent : List ℕ) → List ℕ
-numbers (answers.Refused r) lent = refusalNumbers r
-numbers (answers.Fated f) lent = 0x00 ∷ fateNumber f ∷ []
-numbers (answers.Handed characters flagged bytes) lent = 0x00 ∷ characters ∷ flagged ∷ take bytes lent
-numbers (answers.Took n) lent = 0x00 ∷ n ∷ []
-numbers answers.Silent lent = 0x00 ∷ 0x00 ∷ []
-numbers (answers.Sent b) lent = 0x00 ∷ 0x01 ∷ b ∷ []
-numbers answers.Done lent = 0x00 ∷ []
-numbers (answers.Shown waiting sending stopped losses) lent =
-    0x00 ∷ waiting ∷ sending ∷ (if stopped then 1 else 0) ∷ losses / 256 ∷ losses % 256 ∷ []
-numbers (answers.Picked n) lent = 0x00 ∷ n ∷ []
-numbers answers.NoneReady lent = 0x00 ∷ 0xFF ∷ []
+use Rattle.paper.specs.declared.Refusal.the-variants.{BadLine}
 
 -- FRAMES
 

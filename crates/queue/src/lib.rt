@@ -1,6 +1,6 @@
 // The receive queue by value: the oldest item stands at place 0, and unused places hold zeros.
 ghost use mathlib.Core.Path.{_≡_};
-ghost use Prim.Native.Nat.{_+_, _*_, _<_, _≤_, min};
+ghost use Prim.Native.Nat.{_+_, _*_, _<_, _≤_};
 ghost use lib.ListN.{length};
 ghost use Rattle.paper.specs.Queue as model;
 ghost use Rattle.paper.specs.Queue.{oldest, itemsOf};
@@ -48,12 +48,6 @@ fn count_flags(flags: &[u8]) -> usize
         i += 1;
     }
     sum
-}
-
-fn least(a: usize, b: usize) -> usize
-    ensures { λ r. ⌜ r ≡ min a b ⌝ }
-{
-    if a < b { a } else { b }
 }
 
 impl Queue {
@@ -154,7 +148,7 @@ impl Queue {
         requires { ⌜ (Sound depth depth self) × (place + 3 * n ≤ length (now buffer)) ⌝ }
         ensures { λ r. ⌜ (r ≡ handing depth self n) × (now (buffer .exit) ≡ written (now (buffer .entry)) place (images (itemsOf (oldest n (queueIn self))))) ⌝ }
     {
-        let characters = least(n, self.count);
+        let characters = arrays::least(n, self.count);
         let kinds = self.kinds;
         let bytes = self.bytes;
         let flags = self.flags;

@@ -1,0 +1,16 @@
+use Prim.Native.Nat.{_≤_, _-_}
+use lib.Dec.{lit≤}
+use Rattle.paper.specs.Settings.{twelve}
+use Rattle.queue.specs.Held.{depth}
+use Rattle.channel.proofs.Laws.{shows}
+use Rattle.channel.proofs.Channel.state.Statement.{statement}
+use Rattle.channel.proofs.Channel.state.Tie as tie
+
+returns : tie.Need-returns
+returns c =
+    let a = c .before .before .before in
+    let x = a .args .self in
+    shows depth twelve x (a .pre) (lit≤ tt)
+
+pub state-spec : {M : Type 1} → statement M
+state-spec = tie.close (tie.spec returns)

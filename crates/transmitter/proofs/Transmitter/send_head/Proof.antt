@@ -1,0 +1,44 @@
+use mathlib.Core.Path.{sym, _∙_}
+use mathlib.Core.Bool.{true, false}
+use native.Mathlib.Omega.{arith}
+use borrow.Author.Needs.{needs}
+use Rattle.paper.specs.Transmitter.{transmitDepth}
+use Rattle.transmitter.proofs.Laws.{length-bytes, head-sent}
+use Rattle.transmitter.proofs.Transmitter.send_head.Statement.{statement}
+use Rattle.transmitter.proofs.Transmitter.send_head.Tie as tie
+
+element-copy-out-head : tie.Need-element-copy-out-head
+element-copy-out-head c = search needs
+
+slice-aggregate-close-up : tie.Need-slice-aggregate-close-up
+slice-aggregate-close-up c = search needs
+
+close-up-requires : tie.Need-close-up-requires
+unfolding transmitDepth
+close-up-requires c κs =
+    let a = c .before .before .before in
+    omega (arith, length-bytes transmitDepth (a .args .t1) (a .pre .0) (omega arith))
+
+sub-self : tie.Need-sub-self
+sub-self c = search needs
+
+owes-nl-requires : tie.Need-owes-nl-requires
+owes-nl-requires c κs = search needs
+
+returns : tie.Need-returns
+returns c =
+    let a = c .before .before .before .before .before .before .before in
+    rw (c .if1 .taken)
+    (head-sent transmitDepth (a .args .s) (a .args .t1) (a .pre .0) (omega arith) (a .pre .1) true (c .before .before .before .close-up .ensures)
+    (sym (c .if1 .taken) ∙ c .before .owes-nl .ensures))
+
+returns-2 : tie.Need-returns-2
+returns-2 c =
+    let a = c .before .before .before .before .before .before .before in
+    rw (c .if1 .left)
+    (head-sent transmitDepth (a .args .s) (a .args .t1) (a .pre .0) (omega arith) (a .pre .1) false (c .before .before .before .close-up .ensures)
+    (sym (c .if1 .left) ∙ c .before .owes-nl .ensures))
+
+pub send-head-spec : {M : Type 1} → statement M
+send-head-spec =
+    tie.close (tie.spec element-copy-out-head slice-aggregate-close-up close-up-requires sub-self owes-nl-requires returns returns-2)
