@@ -1,5 +1,5 @@
 -- Calls that keep their promises run as the paper does.
-use mathlib.Core.List.{List, [], _∷_}
+use mathlib.Core.List.{List, _∷_}
 use mathlib.Core.Path.{_≡_, refl, ap, ap₂, sym, _∙_}
 use Prim.Native.Nat.{ℕ}
 use Rattle.paper.specs.Settings.{Size}
@@ -8,7 +8,7 @@ use Rattle.paper.specs.Card.{Call, freshCard}
 use Rattle.paper.specs.Run.{run, end, nameless}
 use Rattle.card.specs.declared.Card.{Card}
 use Rattle.card.specs.declared.Answered.{Answered}
-use Rattle.card.specs.Held.{cardOf, cardIn}
+use Rattle.card.specs.Held.{cardIn}
 use Rattle.card.specs.Promise.{given, answered, Promise}
 use Rattle.card.specs.Runs.{Told, Called, done, then-called, told, AsThePaper, OneAnswer}
 use Rattle.card.proofs.Laws.{card-in}

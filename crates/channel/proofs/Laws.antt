@@ -1,5 +1,5 @@
 -- The record of a channel holds it; a sound record's parts are sound; and a call that gives the paper's step keeps its whole promise.
-use mathlib.Core.Bool.{not, _||_}
+use mathlib.Core.Bool.{not}
 use mathlib.Core.List.{List, []}
 use mathlib.Core.Option.{Option, none, some}
 use mathlib.Core.Path.{_≡_, refl, ap, ap₂}
@@ -15,7 +15,7 @@ use Rattle.paper.specs.Transmitter.{transmitDepth, LineCall, lineLent, loaded, 
 use Rattle.paper.specs.Queue.{oldest, itemsOf}
 use Rattle.paper.specs.Stream.{images}
 use Rattle.paper.specs.Channel as model
-use Rattle.paper.specs.Channel.{ChannelCall, arrive, read, settings, state, line, lent, written, noRoom, arrived, handedOver, settingsTaken, shown, channelStep}
+use Rattle.paper.specs.Channel.{ChannelCall, arrive, read, settings, state, line, lent, written, noRoom, arrived, handedOver, settingsTaken, channelStep}
 use Rattle.paper.specs.Bounds.{SoundChannel}
 use Rattle.paper.specs.declared.Outcome.{Outcome}
 use Rattle.paper.specs.declared.Refusal.{Refusal}

@@ -17,10 +17,10 @@ use transmitter::Transmitter;
 
 // "Each has settings, a receive queue of 12 items, a transmit queue of 12 bytes, and small flags."
 pub struct Channel {
-    pub settings: Settings,
-    pub flags: Flags,
     pub queue: Queue,
     pub transmitter: Transmitter,
+    pub settings: Settings,
+    pub flags: Flags,
 }
 
 // What a call answers, and the channel after it.

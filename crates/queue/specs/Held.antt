@@ -1,5 +1,4 @@
 -- The record that holds the paper's queue, and the queue that a record holds.
-use mathlib.Core.Bool.{Bool}
 use mathlib.Core.List.{List, [], _∷_, map}
 use mathlib.Core.Path.{_≡_}
 use Prim.Native.Nat.{ℕ, suc, _≤_}

@@ -11,14 +11,15 @@ use paper::Fate;
 use paper::Item;
 use paper::Ruling;
 
+// The counts stand first, so that the record has no gaps.
 pub struct Queue {
+    pub count: usize,
+    pub losses: u16,
     // 0 plain, 1 doubled, 2 damaged
     pub kinds: [u8; Queue::DEPTH],
     pub bytes: [u8; Queue::DEPTH],
     // 1 where the item has the overrun flag
     pub flags: [u8; Queue::DEPTH],
-    pub count: usize,
-    pub losses: u16,
 }
 
 // An arrival's fate, and the queue after it.

@@ -137,9 +137,9 @@ fn clean_length(stream: &[u8]) -> usize
     n
 }
 
-// "the front of a stream up to its first FF, as that part of the caller's own bytes; it may be empty or all"
+// "the front of a stream up to its first FF, as that part of the caller's own bytes; it may be empty or all": it starts where the argument does.
 pub fn clean_front(stream: &[u8]) -> &[u8]
-    ensures { λ r. ⌜ now r ≡ paper.cleanFront (now (stream .entry)) ⌝ }
+    ensures { λ r. ⌜ (r .ptr ≡ stream .entry .ptr) × (now r ≡ paper.cleanFront (now (stream .entry))) ⌝ }
 {
     let n = clean_length(stream);
     &stream[..n]

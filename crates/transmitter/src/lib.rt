@@ -14,8 +14,8 @@ use paper::Settings;
 // "a transmit queue of 12 bytes", the oldest at place 0, zeros behind the last; an owed NL; whether a special character waits, and
 // which (0 where none does); CTS.
 pub struct Transmitter {
-    pub bytes: [u8; Transmitter::DEPTH],
     pub count: usize,
+    pub bytes: [u8; Transmitter::DEPTH],
     pub owed: bool,
     pub waits: bool,
     pub special: u8,

@@ -1,4 +1,3 @@
-use Prim.Native.Nat.{_≤_, _-_}
 use mathlib.Core.List.{[], _∷_}
 use Rattle.card.specs.declared.Card.{Card}
 use mathlib.Core.Path.{_≡_}

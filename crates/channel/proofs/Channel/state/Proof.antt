@@ -1,4 +1,3 @@
-use Prim.Native.Nat.{_≤_, _-_}
 use lib.Dec.{lit≤}
 use Rattle.paper.specs.Settings.{twelve}
 use Rattle.queue.specs.Held.{depth}

@@ -1,4 +1,3 @@
-use Prim.Native.Nat.{_≤_, _-_}
 use mathlib.Core.Path.{sym, _∙_}
 use lib.Dec.{lit≤}
 use denote.Ref.{now}

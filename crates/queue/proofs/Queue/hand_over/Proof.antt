@@ -1,5 +1,4 @@
 use lib.Seq.{length-take-le}
-use Prim.Native.Nat.{_≤_, _-_}
 use mathlib.Core.Path.{sym}
 use native.Mathlib.Omega.{arith}
 use lib.Dec.{lit≤}

@@ -1,4 +1,3 @@
-use Prim.Native.Nat.{_-_}
 use borrow.Author.Needs.{needs}
 use Rattle.queue.specs.Held.{placing}
 use Rattle.queue.proofs.Laws.{close}

@@ -1,4 +1,3 @@
-use Prim.Native.Nat.{_-_}
 use borrow.Author.Needs.{needs}
 use Rattle.queue.specs.Held.{depth}
 use Rattle.queue.proofs.Laws.{put-sound, close}
