@@ -90,7 +90,8 @@ module _ (old : List ℕ) (from : ℕ) (inside : from ≤ length old) where
       rw (take-all i (cleared old from) l, drop-of-length-le old h) (append-nil (cleared old from))
 
 -- what has moved, and zeros behind it
-pub move-end : (old : List ℕ) (n : ℕ) → n ≤ length old → cleared (over old (drop n old) (length old - n)) (length old - n) ≡ drop n old ++ replicate n 0
+pub move-end : (old : List ℕ) (n : ℕ) → n ≤ length old
+    → cleared (over old (drop n old) (length old - n)) (length old - n) ≡ drop n old ++ replicate n 0
 move-end old n h =
     let kept = length old - n in
     let l : length (drop n old) ≡ kept = length-drop n old in

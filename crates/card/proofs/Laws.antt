@@ -84,14 +84,16 @@ module _ (places : ℕ) (z : Size) (C : Card) (s : Sound places z C) where
     unfolding cardIn
     channel-sound =
         record {
-          is = ap (λ (l : List Channel). getD l n d) channels-of ∙ getD-map (channelOf places) (map channelIn (C .channels)) n fresh d (rw length-map inside)
+          is = ap (λ (l : List Channel). getD l n d) channels-of ∙ getD-map (channelOf places) (map channelIn (C .channels)) n fresh d
+              (rw length-map inside)
               ∙ ap (channelOf places) at-channel;
           bounds = rw (← at-channel) (s .bounds .each n small);
         }
 
   module _ (most : 1 ≤ z .most) where
     -- what the step gives is its answer, its record and its bytes; that the record is sound follows
-    pub promised : (call : Call) (g : Given (model.Card Unit)) → given z C call ≡ g → (r : Answered) → r ≡ answered places g → Promise places z C call r (g .lent)
+    pub promised : (call : Call) (g : Given (model.Card Unit)) → given z C call ≡ g → (r : Answered) → r ≡ answered places g
+        → Promise places z C call r (g .lent)
     unfolding answered given
     promised call g e r k =
         record {
@@ -109,7 +111,8 @@ module _ (places : ℕ) (z : Size) (C : Card) (s : Sound places z C) where
         (ap (λ (x : Card). record { answer = Refused BadChannel; card = x }) (s .is))
 
     -- a channel's call on a card
-    pub serves : (n : ℕ) (d : Channel) (call : ChannelCall) (r : one.Answered) (l : List ℕ) → n ≤ 3 → channel-promise.Promise places z (getD (C .channels) n d) call r l
+    pub serves : (n : ℕ) (d : Channel) (call : ChannelCall) (r : one.Answered) (l : List ℕ) → n ≤ 3
+        → channel-promise.Promise places z (getD (C .channels) n d) call r l
         → Promise places z C (on n call) (record { answer = r .answer; card = record { channels = set (C .channels) n (r .channel); place = C .place } }) l
     unfolding answered given step cardOf cardIn channel-promise.answered channel-promise.given
     serves n d call r l small p =
@@ -117,7 +120,8 @@ module _ (places : ℕ) (z : Size) (C : Card) (s : Sound places z C) where
         let g = channel-promise.given z x call in
         let e : given z C (on n call) ≡ put (cardIn C) n g = rw (le-ltb 3 n small, at-channel n d (omega arith)) in
         let k : set (C .channels) n (channelOf places (g .next)) ≡ map (channelOf places) (set (map channelIn (C .channels)) n (g .next)) =
-        ap (λ (m : List Channel). set m n (channelOf places (g .next))) channels-of ∙ sym (map-set (channelOf places) (map channelIn (C .channels)) n (g .next)) in
+        ap (λ (m : List Channel). set m n (channelOf places (g .next))) channels-of ∙ sym
+        (map-set (channelOf places) (map channelIn (C .channels)) n (g .next)) in
         rw (p .leaves) (promised (on n call) (put (cardIn C) n g) e _
         (rw (p .gives) (ap (λ (m : List Channel). record { answer = g .answer; card = record { channels = m; place = C .place } }) k)))
 

@@ -191,5 +191,6 @@ module _ (places : ℕ) (z : Size) (c : Channel) (s : Sound places z c) (one : 1
   unfolding given answered channelStep channelIn queue.queueIn
   shows =
       let counts = ap₂ (λ (w t : ℕ). Shown w t (not (c .flags .running)) (c .queue .losses))
-      (count-is places (z .depth) (c .queue) (queue-sound places z c s)) (parts transmitDepth (c .transmitter) (transmitter-sound places z c s) .count) in
+      (count-is places (z .depth) (c .queue) (queue-sound places z c s))
+      (parts transmitDepth (c .transmitter) (transmitter-sound places z c s) .count) in
       keeps places z c s one state (given z c state) refl _ (ap₂ (λ (a : Answer) (x : Channel). record { answer = a; channel = x }) counts (s .is))

@@ -193,7 +193,15 @@ impl Channel {
 
     // The channel with another transmitter, and what the transmitter answers.
     fn send(mut self, sent: transmitter::Answered) -> Answered
-        ensures { λ r. ⌜ r ≡ record { answer = sent .answer; channel = record { settings = self .settings; flags = self .flags; queue = self .queue; transmitter = sent .transmitter } } ⌝ }
+        ensures { λ r. ⌜ r ≡ record {
+          answer = sent .answer;
+          channel = record {
+            settings = self .settings;
+            flags = self .flags;
+            queue = self .queue;
+            transmitter = sent .transmitter;
+          };
+        } ⌝ }
     {
         let answer = sent.answer;
         let transmitter = sent.transmitter;

@@ -3,6 +3,7 @@ use mathlib.Core.List.{List, [], _∷_}
 use Prim.Native.Nat.{ℕ}
 use lib.Dec.{eqb}
 use Rattle.paper.specs.Choice.{if_then_else_}
+use Rattle.paper.specs.Stream.{images}
 use Rattle.paper.specs.declared.Item.{Item}
 use Rattle.paper.specs.declared.Item.the-variants.{Plain, Doubled, Damaged}
 
@@ -27,3 +28,7 @@ abbrev pub itemsIn : (kinds bytes : List ℕ) → List Item
 itemsIn [] bs = []
 itemsIn (k ∷ ks) [] = []
 itemsIn (k ∷ ks) (b ∷ bs) = itemIn k b ∷ itemsIn ks bs
+
+-- their images, one after the other
+abbrev pub imagesIn : (kinds bytes : List ℕ) → List ℕ
+imagesIn ks bs = images (itemsIn ks bs)

@@ -2,9 +2,9 @@
 ghost use mathlib.Core.Path.{_≡_};
 ghost use Prim.Native.Nat.{_+_, _*_, _≤_};
 ghost use lib.ListN.{length};
-ghost use Rattle.paper.specs.Stream.{image, images, front};
+ghost use Rattle.paper.specs.Stream.{image, front};
 ghost use Rattle.paper.specs.Channel.{written};
-ghost use Rattle.images.specs.Code.{kindOf, byteOf, itemIn, itemsIn};
+ghost use Rattle.images.specs.Code.{kindOf, byteOf, itemIn, imagesIn};
 use paper::Item;
 
 // "plain b is b; doubled is FF FF; damaged b is FF 00 b", at the front of a part; answers how many bytes that is.
@@ -30,7 +30,8 @@ fn put_image(part: &mut [u8], kind: u8, byte: u8) -> usize
 // "writes their images into the lent buffer from a given place on"; answers how many bytes they are.
 pub fn put_images(kinds: &[u8], bytes: &[u8], buffer: &mut [u8], place: usize) -> usize
     requires { ⌜ (length (now kinds) ≡ length (now bytes)) × (place + 3 * length (now kinds) ≤ length (now buffer)) ⌝ }
-    ensures { λ r. ⌜ (r ≡ length (images (itemsIn (now (kinds .entry)) (now (bytes .entry))))) × (now (buffer .exit) ≡ written (now (buffer .entry)) place (images (itemsIn (now (kinds .entry)) (now (bytes .entry))))) ⌝ }
+    ensures { λ r. ⌜ (r ≡ length (imagesIn (now (kinds .entry)) (now (bytes .entry))))
+        × (now (buffer .exit) ≡ written (now (buffer .entry)) place (imagesIn (now (kinds .entry)) (now (bytes .entry)))) ⌝ }
 {
     let mut long: usize = 0;
     let mut i: usize = 0;

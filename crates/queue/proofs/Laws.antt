@@ -26,7 +26,8 @@ use Rattle.queue.specs.Held.{Slot, kind, byte, flag, queueOf, slotsIn, q
 slot-in : (x : Slot) → record { item = itemIn (kind x) (byte x); over = eqb (flag x) 1; name = tt } ≡ x
 slot-in x = rw item-in (go (x .item) (x .over))
   where
-    go : (i : Item) (o : Bool) → _≡_ {A = Slot} (record { item = i; over = eqb (if o then 1 else 0) 1; name = tt }) (record { item = i; over = o; name = tt })
+    go : (i : Item) (o : Bool) → _≡_ {A = Slot} (record { item = i; over = eqb (if o then 1 else 0) 1; name = tt })
+        (record { item = i; over = o; name = tt })
     go i true = refl
     go i false = refl
 
@@ -178,7 +179,8 @@ close-sound places d n q s h m =
 pub ones-more : (l : List ℕ) (i : ℕ) → i < length l → ones (take (i + 1) l) ≡ (if eqb (getD l i 0) 1 then suc (ones (take i l)) else ones (take i l))
 ones-more l i h = rw add-one (go l i h)
   where
-    swap : (s t : Bool) (n : ℕ) → _≡_ {A = ℕ} (if s then suc (if t then suc n else n) else (if t then suc n else n)) (if t then suc (if s then suc n else n) else (if s then suc n else n))
+    swap : (s t : Bool) (n : ℕ) → _≡_ {A = ℕ} (if s then suc (if t then suc n else n) else (if t then suc n else n))
+        (if t then suc (if s then suc n else n) else (if s then suc n else n))
     swap true true n = refl
     swap true false n = refl
     swap false true n = refl

@@ -147,7 +147,8 @@ impl Queue {
     // "removes the oldest min(n, waiting) items and writes their images into the lent buffer from a given place on"
     pub fn hand_over(self, n: usize, buffer: &mut [u8], place: usize) -> Handed
         requires { ⌜ (Sound depth depth self) × (place + 3 * n ≤ length (now buffer)) ⌝ }
-        ensures { λ r. ⌜ (r ≡ handing depth self n) × (now (buffer .exit) ≡ written (now (buffer .entry)) place (images (itemsOf (oldest n (queueIn self))))) ⌝ }
+        ensures { λ r. ⌜ (r ≡ handing depth self n)
+            × (now (buffer .exit) ≡ written (now (buffer .entry)) place (images (itemsOf (oldest n (queueIn self))))) ⌝ }
     {
         let characters = arrays::least(n, self.count);
         let kinds = self.kinds;

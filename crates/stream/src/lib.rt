@@ -89,7 +89,8 @@ fn item_at(stream: &[u8], at: usize) -> Found
 
 // "The items go as two lists (0 good or 1 damaged; the byte) into the fronts of two lent buffers, and the answer is their number"
 fn write_items(stream: &[u8], sorts: &mut [u8], bytes: &mut [u8]) -> usize
-    requires { ⌜ (paper.readout (now stream) .rest ≡ []) × (length (now stream) ≤ length (now sorts)) × (length (now stream) ≤ length (now bytes)) ⌝ }
+    requires { ⌜ (paper.readout (now stream) .rest ≡ [])
+        × (length (now stream) ≤ length (now sorts)) × (length (now stream) ≤ length (now bytes)) ⌝ }
     ensures { λ r. ⌜ r ≡ length (paper.readout (now (stream .entry)) .characters) ⌝ }
     ensures { λ _. ⌜ now (sorts .exit) ≡ paper.front (map paper.sort (paper.readout (now (stream .entry)) .characters)) (now (sorts .entry)) ⌝ }
     ensures { λ _. ⌜ now (bytes .exit) ≡ paper.front (map paper.byte (paper.readout (now (stream .entry)) .characters)) (now (bytes .entry)) ⌝ }

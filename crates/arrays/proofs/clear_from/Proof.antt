@@ -8,7 +8,8 @@ use Rattle.arrays.proofs.clear_from.Statement.{statement}
 use Rattle.arrays.proofs.clear_from.Tie as tie
 
 abbrev Inv-loop : tie.InvT-loop
-Inv-loop places₀ from i₀ places i = ((from ≤ i) × (i ≤ length places₀)) × ((length places ≡ length places₀) × (places ≡ over places₀ (cleared places₀ from) i))
+Inv-loop places₀ from i₀ places i = ((from ≤ i) × (i ≤ length places₀)) ×
+    ((length places ≡ length places₀) × (places ≡ over places₀ (cleared places₀ from) i))
 
 abbrev μ-loop : tie.MeasureT-loop
 μ-loop places₀ from i₀ places i = length places₀ - i
@@ -29,8 +30,14 @@ loop-again : tie.Need-loop-again Inv-loop μ-loop
 loop-again c =
     let a = c .before .before in
     let old = a .args .places .now in
-    let i = c .before .loop .i in
-    ((omega arith, omega arith), (simp length-set (omega arith), rw (c .before .loop .inv .1 .1) (clear-step old (a .args .from) (a .pre) i (omega arith) (omega arith))))
+    let i = c .before .loop .i in (
+      (omega arith, omega arith),
+      (
+        simp length-set (omega arith),
+        rw (c .before .loop .inv .1 .1)
+            (clear-step old (a .args .from) (a .pre) i (omega arith) (omega arith)),
+      ),
+    )
 
 same-length : tie.Need-same-length Inv-loop μ-loop
 same-length c = search needs

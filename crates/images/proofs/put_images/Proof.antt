@@ -21,7 +21,13 @@ abbrev μ-loop : tie.MeasureT-loop
 μ-loop kinds bytes buffer₀ place long₀ i₀ buffer long i = length kinds - i
 
 loop-holds : tie.Need-loop-holds Inv-loop μ-loop
-loop-holds c = (omega arith, (omega arith, (refl, (refl, sym (written-none (c .before .before .before .args .buffer .now) (c .before .before .before .args .place))))))
+loop-holds c = (
+  omega arith,
+  (
+    omega arith,
+    (refl, (refl, sym (written-none (c .before .before .before .args .buffer .now) (c .before .before .before .args .place)))),
+  ),
+)
 
 shared-slice-read-kind : tie.Need-shared-slice-read-kind Inv-loop μ-loop
 shared-slice-read-kind c = search needs
@@ -68,7 +74,8 @@ loop-again c =
     let xs = images (itemsIn (take (l .i) ks) (take (l .i) bs)) in
     let item = itemIn (getD ks (l .i) 0) (getD bs (l .i) 0) in
     let e = images-more ks bs (l .i) (omega arith) (omega arith) in
-    let m = part-written (a .args .buffer .now) (a .args .place) xs (image item) (l .buffer) (r .last .0) (a .args .place + l .long) (l .inv .1 .1 .1 .1)
+    let m = part-written (a .args .buffer .now) (a .args .place) xs (image item) (l .buffer) (r .last .0) (a .args .place + l .long)
+    (l .inv .1 .1 .1 .1)
     (ap (a .args .place +_) (l .inv .1 .1 .1 .0)) (omega arith) (r .ensures .1) in
     let fits : a .args .place + length (xs ++ image item) ≤ length (a .args .buffer .now) =
     omega (arith, length-append xs (image item), l .inv .1 .1 .1 .0, image-short item) in (

@@ -33,7 +33,8 @@ element-set-from-next c = search needs
 returns-2 : tie.Need-returns-2
 returns-2 c =
     let a = c .before .before .before .before in
-    serves depth twelve (a .args .t1) (a .pre) (lit≤ tt) (a .args .channel) _ (arrive (a .args .kind) (a .args .byte)) _ _ (omega arith) (c .before .arrive .ensures)
+    serves depth twelve (a .args .t1) (a .pre) (lit≤ tt) (a .args .channel) _ (arrive (a .args .kind) (a .args .byte)) _ _ (omega arith)
+    (c .before .arrive .ensures)
 
 pub arrive-spec : {M : Type 1} → statement M
 arrive-spec =

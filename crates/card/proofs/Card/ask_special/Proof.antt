@@ -34,7 +34,8 @@ element-set-from-next c = search needs
 returns-2 : tie.Need-returns-2
 returns-2 c =
     let a = c .before .before .before .before in
-    serves depth twelve (a .args .t1) (a .pre) (lit≤ tt) (a .args .channel) _ (line (special (a .args .number))) _ _ (omega arith) (c .before .ask-special .ensures)
+    serves depth twelve (a .args .t1) (a .pre) (lit≤ tt) (a .args .channel) _ (line (special (a .args .number))) _ _ (omega arith)
+    (c .before .ask-special .ensures)
 
 pub ask-special-spec : {M : Type 1} → statement M
 ask-special-spec =

@@ -17,7 +17,8 @@ fresh-requires c κs = search needs
 returns : tie.Need-returns
 unfolding cardOf
 returns c =
-    let e : _≡_ {A = Card} (record { channels = c .fresh .result ∷ c .fresh .result ∷ c .fresh .result ∷ c .fresh .result ∷ []; place = 3 }) (cardOf depth freshCard) =
+    let e : _≡_ {A = Card} (record { channels = c .fresh .result ∷ c .fresh .result ∷ c .fresh .result ∷ c .fresh .result ∷ []; place = 3 })
+    (cardOf depth freshCard) =
     rw (c .fresh .ensures .0) in
     (e, rw e (fresh-sound depth twelve (lit≤ tt)))
 

@@ -35,7 +35,8 @@ element-set-from-next c = search needs
 returns-2 : tie.Need-returns-2
 returns-2 c =
     let a = c .before .before .before .before .before in
-    serves depth twelve (a .args .t1) (a .pre) (lit≤ tt) (a .args .channel) _ (line (load (now (a .args .bytes)))) _ _ (omega arith) (c .before .load .ensures)
+    serves depth twelve (a .args .t1) (a .pre) (lit≤ tt) (a .args .channel) _ (line (load (now (a .args .bytes)))) _ _ (omega arith)
+    (c .before .load .ensures)
 
 pub load-spec : {M : Type 1} → statement M
 load-spec =

@@ -12,7 +12,8 @@ use Rattle.card.proofs.Card.read.Tie as tie
 returns : tie.Need-returns
 returns c =
     let a = c .before .before in
-    refuses depth twelve (a .args .t1) (a .pre) (lit≤ tt) (a .args .channel) (read (a .args .n) (a .args .place) (now (a .args .buffer))) (c .if1 .taken)
+    refuses depth twelve (a .args .t1) (a .pre) (lit≤ tt) (a .args .channel) (read (a .args .n) (a .args .place) (now (a .args .buffer)))
+    (c .if1 .taken)
 
 mul-c : tie.Need-mul-c
 mul-c c = search needs
@@ -37,7 +38,8 @@ same-length c = search needs
 returns-2 : tie.Need-returns-2
 returns-2 c =
     let a = c .before .before .before .before .before .before .before .before in
-    serves depth twelve (a .args .t1) (a .pre) (lit≤ tt) (a .args .channel) _ (read (a .args .n) (a .args .place) (now (a .args .buffer))) _ _ (omega arith) (c .before .before .before .read .ensures)
+    serves depth twelve (a .args .t1) (a .pre) (lit≤ tt) (a .args .channel) _ (read (a .args .n) (a .args .place) (now (a .args .buffer))) _ _
+    (omega arith) (c .before .before .before .read .ensures)
 
 pub read-spec : {M : Type 1} → statement M
 read-spec =

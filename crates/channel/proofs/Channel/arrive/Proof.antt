@@ -16,19 +16,22 @@ returns : tie.Need-returns
 returns c =
     let a = c .before .before in
     let x = a .args .self in
-    rw (c .refuse .ensures) (refuses depth twelve x (a .pre) (lit≤ tt) (arrive (a .args .kind) (a .args .byte)) BadKind (bad-kind twelve x _ _ (c .before .if1 .taken)))
+    rw (c .refuse .ensures) (refuses depth twelve x (a .pre) (lit≤ tt) (arrive (a .args .kind) (a .args .byte)) BadKind
+    (bad-kind twelve x _ _ (c .before .if1 .taken)))
 
 arrival-requires : tie.Need-arrival-requires
 arrival-requires c κs = search needs
 
 place-requires : tie.Need-place-requires
-place-requires c κs = queue-sound depth twelve (c .before .before .before .before .before .args .self) (c .before .before .before .before .before .pre)
+place-requires c κs = queue-sound depth twelve (c .before .before .before .before .before .args .self)
+    (c .before .before .before .before .before .pre)
 
 returns-2 : tie.Need-returns-2
 returns-2 c =
     let a = c .before .before .before .before .before .before .before .before in
     let x = a .args .self in
-    arrives depth twelve x (a .pre) (lit≤ tt) (a .args .kind) (a .args .byte) (omega arith) _ (c .before .before .before .before .arrival .ensures) _ (c .before .before .place .ensures)
+    arrives depth twelve x (a .pre) (lit≤ tt) (a .args .kind) (a .args .byte) (omega arith) _ (c .before .before .before .before .arrival .ensures) _
+    (c .before .before .place .ensures)
 
 pub arrive-spec : {M : Type 1} → statement M
 arrive-spec =

@@ -20,7 +20,8 @@ returns : tie.Need-returns
 returns c =
     let a = c .before .before .before in
     let x = a .args .self in
-    rw (c .refuse .ensures) (refuses depth twelve x (a .pre) (lit≤ tt) (read (a .args .n) (a .args .place) (now (a .args .buffer))) TooMany (too-many twelve x _ _ _ (c .before .if1 .taken)))
+    rw (c .refuse .ensures) (refuses depth twelve x (a .pre) (lit≤ tt) (read (a .args .n) (a .args .place) (now (a .args .buffer))) TooMany
+    (too-many twelve x _ _ _ (c .before .if1 .taken)))
 
 refuse-requires-2 : tie.Need-refuse-requires-2
 refuse-requires-2 c κs = search needs
@@ -29,7 +30,8 @@ returns-2 : tie.Need-returns-2
 returns-2 c =
     let a = c .before .before .before .before in
     let x = a .args .self in
-    rw (c .refuse2 .ensures) (refuses depth twelve x (a .pre) (lit≤ tt) (read (a .args .n) (a .args .place) (now (a .args .buffer))) NoRoom (place-beyond twelve x _ _ _ (omega arith) (c .before .if2 .taken)))
+    rw (c .refuse2 .ensures) (refuses depth twelve x (a .pre) (lit≤ tt) (read (a .args .n) (a .args .place) (now (a .args .buffer))) NoRoom
+    (place-beyond twelve x _ _ _ (omega arith) (c .before .if2 .taken)))
 
 sub-if3 : tie.Need-sub-if3
 sub-if3 c = search needs
@@ -44,7 +46,8 @@ returns-3 : tie.Need-returns-3
 returns-3 c =
     let a = c .before .before .before .before .before in
     let x = a .args .self in
-    rw (c .refuse3 .ensures) (refuses depth twelve x (a .pre) (lit≤ tt) (read (a .args .n) (a .args .place) (now (a .args .buffer))) NoRoom (no-room twelve x _ _ _ (omega arith) (omega arith) (c .before .if3 .taken)))
+    rw (c .refuse3 .ensures) (refuses depth twelve x (a .pre) (lit≤ tt) (read (a .args .n) (a .args .place) (now (a .args .buffer))) NoRoom
+    (no-room twelve x _ _ _ (omega arith) (omega arith) (c .before .if3 .taken)))
 
 hand-over-requires : tie.Need-hand-over-requires
 hand-over-requires c κs =

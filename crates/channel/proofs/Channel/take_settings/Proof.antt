@@ -25,7 +25,8 @@ returns : tie.Need-returns
 returns c =
     let a = c .before .before .before .before .before .before in
     let x = a .args .self in
-    rw (c .refuse .ensures) (refuses-settings depth twelve x (a .pre) (lit≤ tt) (now (a .args .bytes)) _ (sym (c .before .before .before .before .judge .ensures) ∙ c .before .before .judged .given .1))
+    rw (c .refuse .ensures) (refuses-settings depth twelve x (a .pre) (lit≤ tt) (now (a .args .bytes)) _
+    (sym (c .before .before .before .before .judge .ensures) ∙ c .before .before .judged .given .1))
 
 returns-2 : tie.Need-returns-2
 returns-2 c =

@@ -21,7 +21,8 @@ slice-aggregate-count-flags : tie.Need-slice-aggregate-count-flags
 slice-aggregate-count-flags c =
     let a = c .before .before .before .before .before .before in
     let m = c .before .before .before .before .least in
-    sym (length-take-le (m .result) (a .args .self .flags) (flags-hold depth depth (a .args .n) (a .args .self) (a .pre .0) (m .result) (m .ensures) (lit≤ tt)))
+    sym (length-take-le (m .result) (a .args .self .flags)
+    (flags-hold depth depth (a .args .n) (a .args .self) (a .pre .0) (m .result) (m .ensures) (lit≤ tt)))
 
 count-flags-requires : tie.Need-count-flags-requires
 count-flags-requires c κs = search needs
@@ -36,7 +37,8 @@ slice-aggregate-put-images : tie.Need-slice-aggregate-put-images
 slice-aggregate-put-images c =
     let a = c .before .before .before .before .before .before .before .before in
     let m = c .before .before .before .before .before .before .least in
-    sym (length-take-le (m .result) (a .args .self .kinds) (kinds-hold depth depth (a .args .n) (a .args .self) (a .pre .0) (m .result) (m .ensures) (lit≤ tt)))
+    sym (length-take-le (m .result) (a .args .self .kinds)
+    (kinds-hold depth depth (a .args .n) (a .args .self) (a .pre .0) (m .result) (m .ensures) (lit≤ tt)))
 
 array-share-prefix-bytes : tie.Need-array-share-prefix-bytes
 array-share-prefix-bytes c =
@@ -48,7 +50,8 @@ slice-aggregate-put-images-2 : tie.Need-slice-aggregate-put-images-2
 slice-aggregate-put-images-2 c =
     let a = c .before .before .before .before .before .before .before .before .before in
     let m = c .before .before .before .before .before .before .before .least in
-    sym (length-take-le (m .result) (a .args .self .bytes) (bytes-hold depth depth (a .args .n) (a .args .self) (a .pre .0) (m .result) (m .ensures) (lit≤ tt)))
+    sym (length-take-le (m .result) (a .args .self .bytes)
+    (bytes-hold depth depth (a .args .n) (a .args .self) (a .pre .0) (m .result) (m .ensures) (lit≤ tt)))
 
 put-images-requires : tie.Need-put-images-requires
 put-images-requires c κs =

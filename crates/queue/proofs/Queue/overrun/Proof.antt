@@ -23,7 +23,8 @@ returns c =
 returns-2 : tie.Need-returns-2
 returns-2 c =
     let a = c .before in
-    lose-sound depth depth (a .args .t1) (a .pre .0) (a .args .t1 .losses) (omega (arith, queue-losses depth depth (a .args .t1) (a .pre .0))) (a .pre .1)
+    lose-sound depth depth (a .args .t1) (a .pre .0) (a .args .t1 .losses) (omega (arith, queue-losses depth depth (a .args .t1) (a .pre .0)))
+    (a .pre .1)
 
 pub overrun-spec : {M : Type 1} → statement M
 overrun-spec = tie.close (tie.spec sub-newest element-write-self add-self returns returns-2)
