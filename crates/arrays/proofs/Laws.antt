@@ -1,9 +1,9 @@
 -- Arrays whose unused places hold zeros, at any number of places.
 use mathlib.Core.Path.{_≡_, refl, ap, sym, subst, _∙_}
 use mathlib.Core.List.{List, [], _∷_, _++_, append-assoc, append-nil}
-use Prim.Native.Nat.{ℕ, suc, _+_, _-_, _≤_, _<_}
+use Prim.Native.Nat.{ℕ, zero, suc, _+_, _-_, _≤_, _<_, min}
 use native.Mathlib.Omega.{arith}
-use native.Mathlib.Nat.{add-comm}
+use native.Mathlib.Nat.{add-comm, zero-min, min-zero, suc-min-suc}
 use native.Mathlib.Numerals.{add-one}
 use lib.ListN.{length, take, drop, set, getD, replicate, length-append, length-take, length-drop, length-set, length-replicate, take-append-drop, drop-of-length-le, replicate-append-replicate, getD-replicate}
 use lib.Seq.{set-append-seam, set-append-left, drop-append-le, getD-drop, getD-append-add, drop-cons, take-suc, set-at, take-at, length-take-le, take-all}
@@ -98,3 +98,14 @@ move-end old n h =
     let t : take kept (drop n old) ≡ drop n old = take-all kept (drop n old) (omega arith) in
     let e : length (over old (drop n old) kept) - kept ≡ n = omega (arith, length-over old (drop n old) kept (omega arith) (omega arith)) in
     rw (e, t, take-at (drop n old) (drop kept old) kept l)
+
+-- no more are taken, or left out, than there are
+pub take-min : {A : Type 0} (n : ℕ) (l : List A) → take (min n (length l)) l ≡ take n l
+take-min zero l = rw zero-min
+take-min (suc n) [] = rw min-zero
+take-min (suc n) (x ∷ l) = rw suc-min-suc (ap (λ (t : List _). x ∷ t) (take-min n l))
+
+pub drop-min : {A : Type 0} (n : ℕ) (l : List A) → drop (min n (length l)) l ≡ drop n l
+drop-min zero l = rw zero-min
+drop-min (suc n) [] = rw min-zero
+drop-min (suc n) (x ∷ l) = rw suc-min-suc (drop-min n l)

@@ -172,13 +172,11 @@ impl Channel {
         requires { ⌜ Sound depth twelve self ⌝ }
         ensures { λ r. ⌜ Promise depth twelve self calls.state (record { answer = r; channel = self }) [] ⌝ }
     {
-        let queue = self.queue;
-        let transmitter = self.transmitter;
         Answer::Shown(
-            queue.count,
-            transmitter.count,
+            self.queue.count,
+            self.transmitter.count,
             !self.flags.running,
-            queue.losses,
+            self.queue.losses,
         )
     }
 

@@ -5,9 +5,8 @@ use mathlib.Core.Path.{_≡_, refl, ap, ap₂, sym, _∙_}
 use Prim.Native.Nat.{ℕ, zero, suc, _+_, _-_, _≤_, _<_, min}
 use native.Mathlib.Omega.{arith}
 use native.Mathlib.Numerals.{add-one}
-use native.Mathlib.Nat.{zero-min, min-zero, suc-min-suc}
 use lib.Dec.{eqb}
-use lib.ListN.{length, take, drop, set, getD, replicate, length-append, length-map, length-drop, length-take, length-replicate}
+use lib.ListN.{length, take, drop, set, getD, replicate, length-append, length-map, length-drop, length-take}
 use lib.Seq.{take-at, take-append-le}
 use Rattle.paper.specs.Choice.{if_then_else_}
 use Rattle.paper.specs.Queue as model
@@ -15,7 +14,7 @@ use Rattle.paper.specs.Queue.{flagged, flagNewest, stored, overrun, removed, ol
 use Rattle.paper.specs.declared.Item.{Item}
 use Rattle.demands.proofs.Placing.{length-flagNewest}
 use Rattle.arrays.specs.Padded.{padded}
-use Rattle.arrays.proofs.Laws.{padded-put, padded-set, padded-drop}
+use Rattle.arrays.proofs.Laws.{padded-length, padded-put, padded-set, padded-drop, take-min, drop-min}
 use Rattle.images.specs.Code.{kindOf, byteOf, itemIn, itemsIn}
 use Rattle.images.proofs.Laws.{item-in}
 use Rattle.queue.specs.declared.Queue.{Queue}
@@ -53,8 +52,8 @@ module _ (places d : ℕ) (q : Queue) (s : Sound places d q) (fits : d ≤ place
       → length (array q) ≡ places
   array-long f array e =
       let l = queueIn q .slots in
-      ap (λ (x : Queue). length (array x)) (s .is) ∙ ap length e
-      ∙ simp (length-append, length-map, length-replicate) (omega (arith, s .waiting))
+      let fewer : length (map f l) ≤ places = rw length-map (omega (arith, s .waiting)) in
+      ap (λ (x : Queue). length (array x)) (s .is) ∙ ap length e ∙ padded-length places (map f l) fewer
 
   pub kinds-long : length (q .kinds) ≡ places
   unfolding queueOf
@@ -202,16 +201,6 @@ ones-flags (x ∷ l) = go (x .over) (ones-flags l)
     go : (o : Bool) {n m : ℕ} → n ≡ m → (if eqb (if o then 1 else 0) 1 then suc n else n) ≡ (if o then suc m else m)
     go true e = ap suc e
     go false e = e
-
-take-min : {A : Type 0} (n : ℕ) (l : List A) → take (min n (length l)) l ≡ take n l
-take-min zero l = rw zero-min
-take-min (suc n) [] = rw min-zero
-take-min (suc n) (x ∷ l) = rw suc-min-suc (ap (λ (t : List _). x ∷ t) (take-min n l))
-
-drop-min : {A : Type 0} (n : ℕ) (l : List A) → drop (min n (length l)) l ≡ drop n l
-drop-min zero l = rw zero-min
-drop-min (suc n) [] = rw min-zero
-drop-min (suc n) (x ∷ l) = rw suc-min-suc (drop-min n l)
 
 map-take : (f : Slot → ℕ) (n : ℕ) (l : List Slot) → take n (map f l) ≡ map f (take n l)
 map-take f zero l = refl

@@ -3,14 +3,14 @@ use mathlib.Core.Path.{_≡_, refl, ap, sym, _∙_}
 use mathlib.Core.Bool.{Bool, true, false, _&&_}
 use mathlib.Core.List.{List, [], _∷_, _++_, append-nil}
 use mathlib.Core.Option.{Option, none, some}
-use Prim.Native.Nat.{ℕ, zero, suc, _+_, _-_, _≤_, _<_, min}
+use Prim.Native.Nat.{ℕ, _+_, _-_, _≤_, _<_, min}
 use native.Mathlib.Omega.{arith}
-use native.Mathlib.Nat.{min-zero, suc-min-suc}
+use native.Mathlib.Nat.{min-comm}
 use lib.Dec.{eqb, ltb}
 use lib.ListN.{length, take, drop, set, getD, replicate, length-append, length-take, length-drop}
-use lib.Seq.{take-append-seam, take-nil}
+use lib.Seq.{take-append-seam}
 use Rattle.arrays.specs.Padded.{padded}
-use Rattle.arrays.proofs.Laws.{padded-length, padded-head, padded-drop, padded-more}
+use Rattle.arrays.proofs.Laws.{padded-length, padded-head, padded-drop, padded-more, take-min}
 use Rattle.paper.specs.Choice.{if_then_else_}
 use Rattle.paper.specs.Given.{Given, given}
 use Rattle.paper.specs.Arrival.{CR, NL}
@@ -33,10 +33,6 @@ special-in-of (some b) = refl
 pub transmitter-in-of : (places : ℕ) (t : model.Transmitter) → transmitterIn (transmitterOf places t) ≡ t
 unfolding transmitterIn transmitterOf
 transmitter-in-of places t = rw (take-append-seam, special-in-of)
-
--- and the record is sound
-pub sound-of : (places : ℕ) (t : model.Transmitter) → length (t .bytes) ≤ transmitDepth → Sound places (transmitterOf places t)
-sound-of places t h = record { is = rw transmitter-in-of; sending = rw transmitter-in-of h }
 
 -- A record that holds the paper's transmitter m, part by part
 pub record Parts (places : ℕ) (t : Transmitter) (m : model.Transmitter) : Type 0 where
@@ -155,11 +151,6 @@ module _ (places : ℕ) (s : Settings) (t : Transmitter) (sound : Sound places t
         cts = p .cts;
       }))
 
-take-min : (n : ℕ) (l : List ℕ) → take (min (length l) n) l ≡ take n l
-take-min zero l = rw min-zero
-take-min (suc n) [] = take-nil (min 0 (suc n))
-take-min (suc n) (b ∷ l) = rw suc-min-suc (ap (λ (r : List ℕ). b ∷ r) (take-min n l))
-
 -- A load writes new bytes behind those that wait: the array when i of them are written
 abbrev pub writtenTo : (places : ℕ) → Transmitter → (new : List ℕ) → (i : ℕ) → List ℕ
 writtenTo places t new i = padded places (transmitterIn t .bytes ++ take i new)
@@ -190,7 +181,7 @@ module _ (places : ℕ) (t : Transmitter) (sound : Sound places t) (new : List �
       let room = transmitDepth - length (m .bytes) in
       let after : model.Transmitter = record { bytes = m .bytes ++ take room new; owed = m .owed; special = m .special; cts = m .cts } in
       let f : taken ≡ min (length new) room = e ∙ ap (λ (n : ℕ). min (length new) (transmitDepth - n)) (p .count) in
-      let g : take taken new ≡ take room new = ap (λ (n : ℕ). take n new) f ∙ take-min room new in
+      let g : take taken new ≡ take room new = ap (λ (n : ℕ). take n new) (f ∙ min-comm (length new) room) ∙ take-min room new in
       answers places (Took taken) {m = after} new
       (record {
         bytes = written ∙ ap (λ (l : List ℕ). padded places (m .bytes ++ l)) g;

@@ -7,7 +7,7 @@ use Rattle.channel.proofs.Channel.state.Tie as tie
 
 returns : tie.Need-returns
 returns c =
-    let a = c .before .before .before in
+    let a = c .before in
     let x = a .args .self in
     shows depth twelve x (a .pre) (lit≤ tt)
 
