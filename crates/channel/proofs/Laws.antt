@@ -2,7 +2,7 @@
 use mathlib.Core.Bool.{not}
 use mathlib.Core.List.{List, []}
 use mathlib.Core.Option.{Option, none, some}
-use mathlib.Core.Path.{_≡_, refl, ap, ap₂}
+use mathlib.Core.Path.{_≡_, refl, ap, ap₂, sym, _∙_}
 use Prim.Native.Nat.{ℕ, _+_, _-_, _*_, _≤_, _<_}
 use native.Mathlib.Omega.{arith}
 use borrow.Author.Tests.{lt-ltb, le-ltb}
@@ -39,7 +39,7 @@ use Rattle.transmitter.proofs.Laws.{transmitter-in-of, parts}
 use Rattle.channel.specs.declared.Channel.{Channel}
 use Rattle.channel.specs.declared.Answered.{Answered}
 use Rattle.channel.specs.Held.{channelOf, channelIn, Sound}
-use Rattle.channel.specs.Promise.{given, answered, Promise}
+use Rattle.channel.specs.Promise.{given, answered, Promise, OneAnswer}
 
 pub channel-in : (places : ℕ) (h : model.Channel Unit) → channelIn (channelOf places h) ≡ h
 unfolding channelIn channelOf
@@ -80,6 +80,9 @@ module _ (places : ℕ) (z : Size) (c : Channel) (s : Sound places z c) where
         → Promise places z c call (record { answer = Refused n; channel = c }) (lent call)
     unfolding answered
     refuses n e = keeps (refused n (channelIn c) (lent call)) e _ (ap (λ (x : Channel). record { answer = Refused n; channel = x }) (s .is))
+
+pub one-answer : (places : ℕ) (z : Size) → OneAnswer places z
+one-answer places z c call r r' l l' p q = (p .gives ∙ sym (q .gives), p .leaves ∙ sym (q .leaves))
 
 -- WHAT THE STEP IS, CASE BY CASE
 

@@ -30,6 +30,12 @@ pub record Promise (places : ℕ) (z : Size) (c : Channel) (call : ChannelCall) 
   pub says : numbers (r .answer) lent ≡ numbers (given z c call .answer) (given z c call .lent)
   pub sound : Sound places z (r .channel)
 
+-- "show that the promise admits one answer only"
+abbrev pub OneAnswer : (places : ℕ) → Size → Type 0
+OneAnswer places z =
+    (c : Channel) (call : ChannelCall) (r r' : Answered) (l l' : List ℕ) → Promise places z c call r l → Promise places z c call r' l'
+    → (r ≡ r') × (l ≡ l')
+
 -- "waiting items reach its threshold"
 unfoldable pub atThreshold : Channel → Bool
 atThreshold c = leb (channelIn c .settings .threshold) (length (channelIn c .queue .slots))

@@ -13,7 +13,7 @@ use borrow.Author.Tests.{ne-eqb, lt-ltb, le-ltb}
 use Rattle.paper.specs.Stream.{Character, good, damaged, Readout, first, readout, sort, byte, front, Decoded, decodedAs, decode, cleanFront}
 use Rattle.paper.specs.declared.Refusal.the-variants.{BrokenStream, ShortOutput}
 use Rattle.paper.specs.declared.Reading.the-variants.{Items, Unread}
-use Rattle.stream.specs.Promise.{Promise}
+use Rattle.stream.specs.Promise.{Promise, OneAnswer}
 use Rattle.stream.specs.Scan.{scanned}
 use Rattle.stream.specs.declared.Scan.the-variants.{Whole, Broken}
 
@@ -181,3 +181,6 @@ clean-more s n clean h e = clean ∙ rw (one s n h, ne-eqb _ _ e, add-one, take-
 -- what is read is the answer and both buffers; its numbers follow
 pub promised : {s sorts bytes : List ℕ} {d : Decoded} → decode s sorts bytes ≡ d → Promise s sorts bytes d
 promised e = record { gives = sym e; says = rw e }
+
+pub one-answer : OneAnswer
+one-answer s sorts bytes d d' p q = p .gives ∙ sym (q .gives)

@@ -9,3 +9,7 @@ use Rattle.paper.specs.Stream.{Decoded, decode}
 pub record Promise (s sorts bytes : List ℕ) (d : Decoded) : Type 0 where
   pub gives : d ≡ decode s sorts bytes
   pub says : readingNumbers (d .answer) ≡ readingNumbers (decode s sorts bytes .answer)
+
+-- "show that the promise admits one answer only"
+abbrev pub OneAnswer : Type 0
+OneAnswer = (s sorts bytes : List ℕ) (d d' : Decoded) → Promise s sorts bytes d → Promise s sorts bytes d' → d ≡ d'
