@@ -42,7 +42,7 @@ ready-requires : tie.Need-ready-requires Inv-loop μ-loop
 ready-requires c κs =
     let a = c .before .before .before in
     let l = c .before .before .loop in
-    rw (l .inv .0) (channel-sound depth twelve (a .args .t1) (a .pre) ((a .args .t1 .place + l .k) % 4) _ (omega arith))
+    rw (l .inv .0) (channel-sound depth twelve (a .args .t1) (a .pre) _ _ (omega arith))
 
 returns : tie.Need-returns Inv-loop μ-loop
 returns c =
