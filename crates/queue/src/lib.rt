@@ -67,6 +67,7 @@ impl Queue {
         }
     }
 
+    // One more item, the newest, without the overrun flag.
     fn store(mut self, item: Item) -> Queue
         requires { ⌜ (Sound depth depth self) × (self .count < depth) ⌝ }
         ensures { λ r. ⌜ r ≡ queueOf depth (model.stored item tt (queueIn self)) ⌝ }

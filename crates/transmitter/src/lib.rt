@@ -79,7 +79,6 @@ impl Transmitter {
         ensures { λ r. ⌜ r ≡ turns transmitDepth s f self ⌝ }
     {
         let first = self.waits;
-        let held = self.is_held(s, f);
         if first {
             let special = self.special;
             self.waits = false;
@@ -89,7 +88,7 @@ impl Transmitter {
                 transmitter: self,
             };
         }
-        if held {
+        if self.is_held(s, f) {
             return Answered {
                 answer: Answer::Silent,
                 transmitter: self,
@@ -179,7 +178,6 @@ impl Transmitter {
         requires { ⌜ Sound transmitDepth self ⌝ }
         ensures { λ r. ⌜ r ≡ asksSpecial transmitDepth s self number ⌝ }
     {
-        let waits = self.waits;
         if number < 1 {
             return Answered {
                 answer: Answer::Refused(Refusal::BadSpecial),
@@ -192,7 +190,7 @@ impl Transmitter {
                 transmitter: self,
             };
         }
-        if waits {
+        if self.waits {
             return Answered {
                 answer: Answer::Refused(Refusal::SpecialWaits),
                 transmitter: self,
