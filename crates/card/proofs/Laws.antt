@@ -1,16 +1,17 @@
 -- The record of a card holds it; a sound card's channels are sound; and a call that gives the paper's step keeps its whole promise.
 use mathlib.Core.Bool.{Bool, true, false}
 use mathlib.Core.List.{List, [], _∷_, map}
-use mathlib.Core.Option.{none, some}
+use mathlib.Core.Option.{Option, none, some}
 use mathlib.Core.Path.{_≡_, refl, ap, ap₂, sym, subst, _∙_}
 use Prim.Native.Nat.{ℕ, zero, suc, _+_, _-_, _%_, _≤_, _<_}
 use native.Mathlib.Omega.{arith}
-use lib.Dec.{leb}
+use lib.Dec.{leb, ltb}
 use lib.ListN.{length, drop, getD, set, length-map, List·getD-map}
 use lib.Seq.{set-getD}
 use borrow.Author.Tests.{lt-ltb, le-ltb}
 use Rattle.paper.specs.Choice.{if_then_else_}
 use Rattle.paper.specs.Settings.{Size}
+use Rattle.paper.specs.Given as paper
 use Rattle.paper.specs.Given.{Given, refused}
 use Rattle.paper.specs.Channel.{ChannelCall, lent, fresh}
 use Rattle.paper.specs.Card as model
@@ -19,6 +20,7 @@ use Rattle.paper.specs.Bounds as bounds
 use Rattle.paper.specs.declared.Refusal.the-variants.{BadChannel}
 use Rattle.paper.specs.declared.Answer.{Answer}
 use Rattle.paper.specs.declared.Answer.the-variants.{Refused, Picked, NoneReady}
+use Rattle.demands.proofs.Cases.{ahead}
 use Rattle.demands.proofs.Bounds.{kept, fresh-card}
 use Rattle.channel.specs.declared.Channel.{Channel}
 use Rattle.channel.specs.declared.Answered as one
@@ -30,6 +32,7 @@ use Rattle.card.specs.declared.Card.{Card}
 use Rattle.card.specs.declared.Answered.{Answered}
 use Rattle.card.specs.Held.{cardOf, cardIn, Sound}
 use Rattle.card.specs.Promise.{given, answered, Promise}
+use Rattle.card.specs.Look.{found, mark, marks}
 
 channels-in : (places : ℕ) (l : List _) → map channelIn (map (channelOf places) l) ≡ l
 channels-in places [] = refl
@@ -58,6 +61,27 @@ map-set : {A B : Type 0} (f : A → B) (l : List A) (i : ℕ) (a : A) → map f 
 map-set f [] i a = refl
 map-set f (x ∷ l) zero a = refl
 map-set f (x ∷ l) (suc i) a = ap (λ (m : List _). f x ∷ m) (map-set f l i a)
+
+-- marks that were asked one by one
+pub looked : (d : Channel) (C : Card) {r₀ r₁ r₂ r₃ : Bool} {n : ℕ} → r₀ ≡ mark d C 0 → r₁ ≡ mark d C 1 → r₂ ≡ mark d C 2 → r₃ ≡ mark d C 3
+    → n ≡ found (r₀ ∷ r₁ ∷ r₂ ∷ r₃ ∷ []) (round (C .place)) → found (marks d C) (round (C .place)) ≡ n
+looked d C e₀ e₁ e₂ e₃ e = sym (rw (e₀, e₁, e₂, e₃) at e)
+
+-- the channel that a search of marks finds, 4 for none, as the paper has it
+abbrev named : ℕ → Option ℕ
+named n = if ltb n 4 then some n else none
+
+name : (t : Bool) (n m : ℕ) (o : Option ℕ) → n < 4 → o ≡ named m → (if t then some n else o) ≡ named (if t then n else m)
+name true n m o small e = rw (lt-ltb n 4 small)
+name false n m o small e = e
+
+searched : (K : model.Card Unit) (marks : List Bool) → ((n : ℕ) → n < 4 → getD marks n false ≡ ready K n)
+    → (p k count : ℕ) → firstReady K (ahead p k count) ≡ named (found marks (ahead p k count))
+unfolding found
+searched K marks same p k zero = refl
+searched K marks same p k (suc m) =
+    let n = (p + suc k) % 4 in
+    rw (same n (omega arith)) (name (ready K n) n _ _ (omega arith) (searched K marks same p (suc k) m))
 
 module _ (places : ℕ) (z : Size) (C : Card) (s : Sound places z C) where
   pub four : length (C .channels) ≡ 4
@@ -89,6 +113,49 @@ module _ (places : ℕ) (z : Size) (C : Card) (s : Sound places z C) where
               ∙ ap (channelOf places) at-channel;
           bounds = rw (← at-channel) (s .bounds .each n small);
         }
+
+  -- THE SEARCH OF A PICK, over the marks of the record's four channels
+
+  -- whether the channel's record says that it is ready
+  pub ready-is : (n : ℕ) (d : Channel) → n < 4 → ready (cardIn C) n ≡ channel-promise.atThreshold (getD (C .channels) n d)
+  unfolding channel-promise.atThreshold
+  ready-is n d small = ap (λ h. leb (h .settings .threshold) (length (h .queue .slots))) (at-channel n d small)
+
+  module _ (d : Channel) where
+    mark-is : (n : ℕ) → n < 4 → getD (marks d C) n false ≡ ready (cardIn C) n
+    mark-is zero small = sym (ready-is zero d small)
+    mark-is (suc zero) small = sym (ready-is 1 d small)
+    mark-is (suc (suc zero)) small = sym (ready-is 2 d small)
+    mark-is (suc (suc (suc zero))) small = sym (ready-is 3 d small)
+    mark-is (suc (suc (suc (suc n)))) small = absurd (omega arith)
+
+    first-is : firstReady (cardIn C) (round (C .place)) ≡ named (found (marks d C) (round (C .place)))
+    first-is = searched (cardIn C) (marks d C) mark-is (C .place) 0 4
+
+    pub first-found : (n : ℕ) → found (marks d C) (round (C .place)) ≡ n → n < 4 → firstReady (cardIn C) (round (C .place)) ≡ some n
+    first-found n e small = first-is ∙ ap named e ∙ rw (lt-ltb n 4 small)
+
+    pub none-found : (n : ℕ) → found (marks d C) (round (C .place)) ≡ n → 4 ≤ n → firstReady (cardIn C) (round (C .place)) ≡ none
+    none-found n e beyond = first-is ∙ ap named e ∙ rw (le-ltb n 4 beyond)
+
+    -- so the paper's step names the channel that was found, or none
+    pub step-names : (n : ℕ) → found (marks d C) (round (C .place)) ≡ n → n < 4
+        → step z tt (cardIn C) pick ≡ paper.given (Picked n) (cardIn (record { channels = C .channels; place = n })) []
+    unfolding step picked cardIn
+    step-names n e small = ap (pickedAs (cardIn C)) (first-found n e small)
+
+    pub step-names-none : (n : ℕ) → found (marks d C) (round (C .place)) ≡ n → 4 ≤ n → step z tt (cardIn C) pick ≡ paper.given NoneReady (cardIn C) []
+    unfolding step picked cardIn
+    step-names-none n e beyond = ap (pickedAs (cardIn C)) (none-found n e beyond)
+
+  -- and the record with its new place is sound
+  pub placed-sound : (n : ℕ) → n < 4 → Sound places z (record { channels = C .channels; place = n })
+  unfolding cardIn cardOf
+  placed-sound n small =
+      record {
+        is = ap (λ (l : List Channel). record { channels = l; place = n }) channels-of;
+        bounds = record { four = s .bounds .four; each = s .bounds .each; place = small };
+      }
 
   module _ (most : 1 ≤ z .most) where
     -- what the step gives is its answer, its record and its bytes; that the record is sound follows
@@ -147,15 +214,21 @@ module _ (places : ℕ) (z : Size) (C : Card) (s : Sound places z C) where
     names-none e =
         promised pick (pickedAs (cardIn C) none) (ap (pickedAs (cardIn C)) e) _ (ap (λ (x : Card). record { answer = NoneReady; card = x }) (s .is))
 
-  -- whether the channel's record says that it is ready
-  pub ready-is : (n : ℕ) (d : Channel) → n < 4 → ready (cardIn C) n ≡ channel-promise.atThreshold (getD (C .channels) n d)
-  unfolding channel-promise.atThreshold
-  ready-is n d small = ap (λ h. leb (h .settings .threshold) (length (h .queue .slots))) (at-channel n d small)
+    -- a pick by marks that were asked one by one
+    module _ (d : Channel) {r₀ r₁ r₂ r₃ : Bool} {n : ℕ}
+        (e₀ : r₀ ≡ mark d C 0) (e₁ : r₁ ≡ mark d C 1) (e₂ : r₂ ≡ mark d C 2) (e₃ : r₃ ≡ mark d C 3)
+        (e : n ≡ found (r₀ ∷ r₁ ∷ r₂ ∷ r₃ ∷ []) (round (C .place))) where
+      pub picks : n < 4 → Promise places z C pick (record { answer = Picked n; card = record { channels = C .channels; place = n } }) []
+      picks small = names n (first-found d n (looked d C e₀ e₁ e₂ e₃ e) small)
+
+      pub picks-none : 4 ≤ n → Promise places z C pick (record { answer = NoneReady; card = C }) []
+      picks-none beyond = names-none (none-found d n (looked d C e₀ e₁ e₂ e₃ e) beyond)
 
 -- a round of four, one look at a time
-module _ (K : model.Card Unit) (p : ℕ) where
+module _ (marks : List Bool) (p : ℕ) where
   look : (k : ℕ) → 1 ≤ k → k < 5
-      → firstReady K (drop (k - 1) (round p)) ≡ (if ready K ((p + k) % 4) then some ((p + k) % 4) else firstReady K (drop k (round p)))
+      → found marks (drop (k - 1) (round p)) ≡ (if getD marks ((p + k) % 4) false then (p + k) % 4 else found marks (drop k (round p)))
+  unfolding found
   look zero low high = absurd (omega arith)
   look (suc zero) low high = refl
   look (suc (suc zero)) low high = refl
@@ -164,10 +237,10 @@ module _ (K : model.Card Unit) (p : ℕ) where
   look (suc (suc (suc (suc (suc k))))) low high = absurd (omega arith)
 
   module _ (k : ℕ) (low : 1 ≤ k) (high : k < 5) where
-    pub look-finds : ready K ((p + k) % 4) ≡ true → firstReady K (drop (k - 1) (round p)) ≡ some ((p + k) % 4)
-    look-finds e = look k low high ∙ ap (λ (t : Bool). if t then some ((p + k) % 4) else firstReady K (drop k (round p))) e
+    pub look-finds : getD marks ((p + k) % 4) false ≡ true → found marks (drop (k - 1) (round p)) ≡ (p + k) % 4
+    look-finds e = look k low high ∙ ap (λ (t : Bool). if t then (p + k) % 4 else found marks (drop k (round p))) e
 
-    pub look-on : ready K ((p + k) % 4) ≡ false → firstReady K (drop (k - 1) (round p)) ≡ firstReady K (drop (k + 1 - 1) (round p))
+    pub look-on : getD marks ((p + k) % 4) false ≡ false → found marks (drop (k - 1) (round p)) ≡ found marks (drop (k + 1 - 1) (round p))
     look-on e =
         let m : k + 1 - 1 ≡ k = omega arith in
-        rw m (look k low high ∙ ap (λ (t : Bool). if t then some ((p + k) % 4) else firstReady K (drop k (round p))) e)
+        rw m (look k low high ∙ ap (λ (t : Bool). if t then (p + k) % 4 else found marks (drop k (round p))) e)

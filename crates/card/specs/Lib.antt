@@ -1,3 +1,4 @@
 pub mod Held
 pub mod Promise
+pub mod Look
 pub mod Runs

@@ -1,0 +1,4 @@
+// The frame program.
+fn main() {
+    shell::start();
+}

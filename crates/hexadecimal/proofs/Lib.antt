@@ -1,0 +1,3 @@
+mod Bytes
+pub mod Laws
+mod Pieces

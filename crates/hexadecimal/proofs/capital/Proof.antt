@@ -1,0 +1,20 @@
+-- `hexadecimal::capital` meets its contract.
+use borrow.Author.Tests.{lt-ltb, le-ltb}
+use borrow.Author.Needs.{needs}
+use Rattle.hexadecimal.proofs.capital.Statement.{statement}
+use Rattle.hexadecimal.proofs.capital.Tie as tie
+
+add-result : tie.Need-add-result
+add-result c = search needs
+
+returns : tie.Need-returns
+returns c = search (needs, lt-ltb)
+
+add-result-2 : tie.Need-add-result-2
+add-result-2 c = search needs
+
+returns-2 : tie.Need-returns-2
+returns-2 c = search (needs, le-ltb)
+
+pub capital-spec : {M : Type 1} → statement M
+capital-spec = tie.close (tie.spec add-result returns add-result-2 returns-2)

@@ -1,0 +1,33 @@
+-- From a channel's promise to an answer line.
+use mathlib.Core.Bool.{true}
+use mathlib.Core.List.{List}
+use mathlib.Core.Path.{_≡_, sym, subst}
+use Prim.Native.Nat.{ℕ}
+use Rattle.paper.specs.Settings.{twelve}
+use Rattle.paper.specs.Channel.{ChannelCall}
+use Rattle.queue.specs.Held.{depth}
+use Rattle.channel.specs.declared.Channel.{Channel}
+use Rattle.channel.specs.declared.Answered.{Answered}
+use Rattle.channel.specs.Held.{Sound, channelIn}
+use Rattle.channel.specs.Promise.{Promise, given, answered}
+use Rattle.hexadecimal.specs.Written.{Wrote}
+use Rattle.answers.specs.Line.{line, Small}
+use Rattle.answers.proofs.Laws.{small}
+use Rattle.serving.specs.declared.Said.{Said}
+use Rattle.serving.specs.Served.{Says}
+
+module _ (c : Channel) (call : ChannelCall) (a : Answered) (lent : List ℕ) (p : Promise depth twelve c call a lent) where
+  -- the answer fits a line
+  pub fits : Sound depth twelve c → Small (a .answer) lent
+  unfolding given answered
+  fits s = rw (p .gives, p .leaves) (small (channelIn c) (s .bounds) call)
+
+  pub said : (before : List ℕ) (at : ℕ) (r : Said) (after : List ℕ) → r .channel ≡ a .channel
+      → Wrote before at (line (a .answer) lent) after (r .put) → Says c call before at r after
+  said before at r after same w =
+      record {
+        answer = a .answer;
+        lent = lent;
+        kept = rw same p;
+        wrote = w;
+      }

@@ -1,0 +1,6 @@
+mod Answers
+mod Frames
+mod Lines
+mod Loop
+mod Onward
+mod Program

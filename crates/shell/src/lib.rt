@@ -1,0 +1,173 @@
+// The frame program's dealings with the world: reads standard input to its end, serves each piece, and writes the answers before it reads on. What it
+// serves and writes is proved in `serving`; no contract can say what is read or written, so these functions are kept thin.
+ghost use mathlib.Core.Bool.{true};
+ghost use mathlib.Core.Path.{_≡_};
+ghost use Prim.Native.Nat.{_≤_};
+ghost use lib.ListN.{length};
+ghost use Rattle.paper.specs.Settings.{twelve};
+ghost use Rattle.queue.specs.Held.{depth};
+ghost use Rattle.card.specs.Held.{Sound};
+ghost use Rattle.hexadecimal.specs.Line.{Fits};
+ghost use Rattle.serving.specs.Program.{PieceServed};
+use card::Card;
+use hexadecimal::Line;
+use serving::Spot;
+
+// Whether a call failed only because it was interrupted. An output that was closed is no news; any other failure is said.
+fn is_interrupted(what: &[u8]) -> bool {
+    let error = os::errno();
+    if error == libc::EINTR {
+        return true;
+    }
+    if error != libc::EPIPE {
+        os::fail(what);
+    }
+    false
+}
+
+// One read, however often it is interrupted: how many bytes came, 0 at the input's end, or less where it failed,
+// which was then said.
+fn read_piece(piece: &mut [u8]) -> isize {
+    let mut turns = u64::MAX;
+    while turns > 0 {
+        turns -= 1;
+        let got = libc::read(libc::STDIN_FILENO, piece);
+        if got >= 0 {
+            return got;
+        }
+        if !is_interrupted(b"standard input") {
+            return got;
+        }
+    }
+    0
+}
+
+// Writes all of a text, by as many writes as it takes. False where the output takes no more: one that was closed ends the program quietly, and any
+// other failure is said.
+fn write_text(text: &[u8]) -> bool {
+    let mut done: usize = 0;
+    let mut turns = u64::MAX;
+    while done < text.len() {
+        if turns == 0 {
+            return false;
+        }
+        turns -= 1;
+        let took = libc::write(libc::STDOUT_FILENO, &text[done..]);
+        if took < 0 {
+            if !is_interrupted(b"standard output") {
+                return false;
+            }
+        } else {
+            done += io::count(took, &text[done..]);
+        }
+    }
+    true
+}
+
+// What is carried from piece to piece, and whether the output is still open.
+struct Carried {
+    card: Card,
+    line: Line,
+    open: bool,
+}
+
+// Serves a piece to its end, and writes out what is answered whenever there is no room for more, and at the end.
+fn answer(start: Card, piece: &[u8], held: Line, frame: &mut [u8], out: &mut [u8]) -> Carried
+    requires { ⌜ Sound depth twelve start × (Fits held (now frame) × (79 ≤ length (now out))) ⌝ }
+    ensures { λ r. ⌜ Sound depth twelve (r .card) × Fits (r .line) (now (frame .exit)) ⌝ }
+    ensures { λ r. ⌜ (r .open ≡ true → PieceServed (now (piece .entry)) (record { card = start; line = held; frame = now (frame .entry) })
+        (record { card = r .card; line = r .line; frame = now (frame .exit) })) ⌝ }
+{
+    let mut card = start;
+    let mut line = held;
+    let mut at: usize = 0;
+    while at < piece.len() {
+        let from = Spot { at, line, put: 0 };
+        let served = serving::serve(card, piece, from, frame, out);
+        let next = served.card;
+        card = next;
+        let spot = served.spot;
+        let ahead = spot.line;
+        line = ahead;
+        at = spot.at;
+        let put = spot.put;
+        if !write_text(&out[..put]) {
+            return Carried {
+                card,
+                line,
+                open: false,
+            };
+        }
+    }
+    Carried {
+        card,
+        line,
+        open: true,
+    }
+}
+
+// "A last line without its newline counts": where the input ends within a line, the newline that is missing is put in its place; answers how many
+// bytes that makes.
+fn complete(line: Line, piece: &mut [u8]) -> usize
+    requires { ⌜ 1 ≤ length (now piece) ⌝ }
+    ensures { λ r. ⌜ r ≤ length (now (piece .exit)) ⌝ }
+{
+    if line.digits == 0 {
+        return 0;
+    }
+    piece[0] = b'\n';
+    1
+}
+
+// A piece of the input that stands at the front of the buffer, and whether it is the last.
+struct Piece {
+    long: usize,
+    last: bool,
+}
+
+// The next piece. After the last one comes the newline that it may lack; after a read that failed nothing comes, so that a line that may not be
+// complete is not answered.
+fn next_piece(piece: &mut [u8], line: Line) -> Piece
+    requires { ⌜ 1 ≤ length (now piece) ⌝ }
+    ensures { λ r. ⌜ r .long ≤ length (now (piece .exit)) ⌝ }
+{
+    let got = read_piece(piece);
+    if got < 0 {
+        return Piece {
+            long: 0,
+            last: true,
+        };
+    }
+    if got == 0 {
+        let long = complete(line, piece);
+        return Piece { long, last: true };
+    }
+    let long = io::count(got, piece);
+    Piece { long, last: false }
+}
+
+// "It reads standard input, one frame of hexadecimal a line ..., and prints one line ... for each."
+pub fn start() {
+    let mut card = Card::fresh();
+    let mut line = Line { digits: 0, last: 0 };
+    let mut frame = [0u8; hexadecimal::MOST];
+    let mut piece = io::large_buffer();
+    let mut out = io::large_buffer();
+    let mut turns = u64::MAX;
+    while turns > 0 {
+        turns -= 1;
+        let got = next_piece(&mut piece, line);
+        let n = got.long;
+        let carried = answer(card, &piece[..n], line, &mut frame, &mut out);
+        if got.last {
+            return;
+        }
+        if !carried.open {
+            return;
+        }
+        let next = carried.card;
+        card = next;
+        let ahead = carried.line;
+        line = ahead;
+    }
+}
