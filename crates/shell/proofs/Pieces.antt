@@ -1,9 +1,9 @@
 -- A piece served call by call.
 use mathlib.Core.List.{List, [], _∷_, _++_, append-assoc}
 use mathlib.Core.Path.{_≡_, refl, sym, subst}
-use Prim.Native.Nat.{ℕ, zero, suc, _≤_}
+use Prim.Native.Nat.{ℕ, zero, suc, _≤_, _<_}
 use native.Mathlib.Omega.{arith}
-use lib.ListN.{length, take, getD, replicate}
+use lib.ListN.{length, take, getD, set, replicate}
 use Rattle.paper.specs.Settings.{twelve}
 use Rattle.queue.specs.Held.{depth}
 use Rattle.card.specs.declared.Card.{Card}
@@ -53,3 +53,8 @@ zeros (suc n) (suc i) = zeros n i
 
 pub fresh-fits : Fits (record { digits = 0; last = 0 }) (replicate 34 0)
 fresh-fits = record { digits = omega arith; last = omega arith; room = refl; bytes = λ i. rw (zeros 34 i) (omega arith) }
+
+-- the front of a buffer whose first byte was stored
+pub first-set : (l : List ℕ) (b : ℕ) → 0 < length l → take 1 (set l 0 b) ≡ b ∷ []
+first-set [] b h = absurd (omega arith)
+first-set (x ∷ l) b h = refl

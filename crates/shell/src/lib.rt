@@ -1,14 +1,14 @@
 // The frame program's dealings with the world: reads standard input to its end, serves each piece, and writes the answers before it reads on. What it
 // serves and writes is proved in `serving`; no contract can say what is read or written, so these functions are kept thin.
-ghost use mathlib.Core.Bool.{true};
+ghost use mathlib.Core.Bool.{true, false};
 ghost use mathlib.Core.Path.{_≡_};
 ghost use Prim.Native.Nat.{_≤_};
-ghost use lib.ListN.{length};
+ghost use lib.ListN.{length, take};
 ghost use Rattle.paper.specs.Settings.{twelve};
 ghost use Rattle.queue.specs.Held.{depth};
 ghost use Rattle.card.specs.Held.{Sound};
 ghost use Rattle.hexadecimal.specs.Line.{Fits};
-ghost use Rattle.serving.specs.Program.{PieceServed};
+ghost use Rattle.serving.specs.Program.{PieceServed, missing};
 use card::Card;
 use hexadecimal::Line;
 use serving::Spot;
@@ -106,11 +106,10 @@ fn answer(start: Card, piece: &[u8], held: Line, frame: &mut [u8], out: &mut [u8
     }
 }
 
-// "A last line without its newline counts": where the input ends within a line, the newline that is missing is put in its place; answers how many
-// bytes that makes.
+// "A last line without its newline counts": the newline that is missing where the input ends within a line; answers how many bytes that makes.
 fn complete(line: Line, piece: &mut [u8]) -> usize
     requires { ⌜ 1 ≤ length (now piece) ⌝ }
-    ensures { λ r. ⌜ r ≤ length (now (piece .exit)) ⌝ }
+    ensures { λ r. ⌜ (r ≤ length (now (piece .exit))) × (take r (now (piece .exit)) ≡ missing line) ⌝ }
 {
     if line.digits == 0 {
         return 0;
@@ -119,31 +118,41 @@ fn complete(line: Line, piece: &mut [u8]) -> usize
     1
 }
 
-// A piece of the input that stands at the front of the buffer, and whether it is the last.
+// A piece of the input that stands at the front of the buffer, whether it is the last, and whether the input failed instead.
 struct Piece {
     long: usize,
     last: bool,
+    failed: bool,
 }
 
-// The next piece. After the last one comes the newline that it may lack; after a read that failed nothing comes, so that a line that may not be
-// complete is not answered.
+// The next piece; after the input's end, the newline that it may lack.
 fn next_piece(piece: &mut [u8], line: Line) -> Piece
     requires { ⌜ 1 ≤ length (now piece) ⌝ }
     ensures { λ r. ⌜ r .long ≤ length (now (piece .exit)) ⌝ }
+    ensures { λ r. ⌜ (r .failed ≡ false → r .last ≡ true → take (r .long) (now (piece .exit)) ≡ missing line) ⌝ }
 {
     let got = read_piece(piece);
     if got < 0 {
         return Piece {
             long: 0,
             last: true,
+            failed: true,
         };
     }
     if got == 0 {
         let long = complete(line, piece);
-        return Piece { long, last: true };
+        return Piece {
+            long,
+            last: true,
+            failed: false,
+        };
     }
     let long = io::count(got, piece);
-    Piece { long, last: false }
+    Piece {
+        long,
+        last: false,
+        failed: false,
+    }
 }
 
 // "It reads standard input, one frame of hexadecimal a line ..., and prints one line ... for each."
@@ -157,6 +166,10 @@ pub fn start() {
     while turns > 0 {
         turns -= 1;
         let got = next_piece(&mut piece, line);
+        // a line that may not be complete is not answered
+        if got.failed {
+            return;
+        }
         let n = got.long;
         let carried = answer(card, &piece[..n], line, &mut frame, &mut out);
         if got.last {

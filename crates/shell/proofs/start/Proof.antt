@@ -42,7 +42,7 @@ array-share-prefix-piece : tie.Need-array-share-prefix-piece Inv-loop μ-loop
 array-share-prefix-piece c = search needs
 
 slice-aggregate-answer : tie.Need-slice-aggregate-answer Inv-loop μ-loop
-slice-aggregate-answer c = simp length-take (omega (arith, c .before .before .next-piece .ensures))
+slice-aggregate-answer c = simp length-take (omega (arith, c .before .before .before .next-piece .ensures .0))
 
 slice-aggregate-answer-2 : tie.Need-slice-aggregate-answer-2 Inv-loop μ-loop
 slice-aggregate-answer-2 c = search needs
@@ -52,7 +52,7 @@ slice-aggregate-answer-3 c = search needs
 
 answer-requires : tie.Need-answer-requires Inv-loop μ-loop
 answer-requires c κs =
-    let i = c .before .before .before .before .before .before .before .loop .inv in
+    let i = c .before .before .before .before .before .before .before .before .loop .inv in
     (i .0 .0, (i .0 .1, omega (arith, i .1 .1)))
 
 returns : tie.Need-returns Inv-loop μ-loop
@@ -72,6 +72,9 @@ loop-again c =
 returns-3 : tie.Need-returns-3 Inv-loop μ-loop
 returns-3 c = tt
 
+returns-4 : tie.Need-returns-4 Inv-loop μ-loop
+returns-4 c = tt
+
 pub start-spec : {M : Type 1} → statement M
 start-spec =
     tie.close
@@ -85,13 +88,14 @@ start-spec =
     sub-turns
     slice-aggregate-next-piece
     next-piece-requires
+    returns
     array-share-prefix-piece
     slice-aggregate-answer
     slice-aggregate-answer-2
     slice-aggregate-answer-3
     answer-requires
-    returns
     returns-2
+    returns-3
     loop-less
     loop-again
-    returns-3)
+    returns-4)
