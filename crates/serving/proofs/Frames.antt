@@ -3,11 +3,11 @@ use mathlib.Core.Bool.{Bool, true, false, true≢false}
 use mathlib.Core.List.{List, [], _∷_}
 use mathlib.Core.Option.{Option, none, some}
 use mathlib.Core.Path.{_≡_, refl, sym, ap, _∙_}
-use Prim.Native.Nat.{ℕ, _≤_, _<_}
+use Prim.Native.Nat.{ℕ, _+_, _≤_, _<_}
 use native.Mathlib.Omega.{arith}
 use lib.Dec.{eqb, leb, ltb}
 use lib.ListN.{length, getD}
-use borrow.Author.Tests.{eqb-true, eqb-false, leb-true, eq-eqb, ne-eqb}
+use borrow.Author.Tests.{eqb-true, eqb-false, leb-true, eq-eqb, ne-eqb, lt-leb, le-leb}
 use Rattle.paper.specs.Choice.{if_then_else_}
 use Rattle.paper.specs.Settings.{twelve}
 use Rattle.paper.specs.Card.{Call, on, pick}
@@ -134,3 +134,69 @@ module _ (f : List ℕ) (l : Listed f) where
         ne-eqb _ _ k,
         ne-eqb _ _ m,
       ))))))))))))
+
+-- THE TABLE OF LENGTHS
+
+abbrev pub row : ℕ → ℕ
+row first = getD (0 ∷ 4 ∷ 3 ∷ 2 ∷ 2 ∷ 3 ∷ 3 ∷ 2 ∷ 1 ∷ 2 ∷ 2 ∷ []) first 0
+
+down : (n k : ℕ) → n ≤ k + 1 → (n ≡ k + 1 → ⊥) → n ≤ k
+down n k h other = omega arith
+
+none-below : (n : ℕ) → n ≤ 0 → n ≡ 0
+none-below n h = omega arith
+
+ten : (P : ℕ → Type 0) → P 1 → P 2 → P 3 → P 4 → P 5 → P 6 → P 7 → P 8 → P 9 → P 10 → (n : ℕ) → (n ≡ 0 → ⊥) → n ≤ 10 → P n
+ten P p₁ p₂ p₃ p₄ p₅ p₆ p₇ p₈ p₉ p₁₀ n low h₁₀ =
+    either n 10 (λ e. rw e p₁₀) (λ a. let h₉ = down n 9 h₁₀ a in either n 9 (λ e. rw e p₉) (λ b. let h₈ = down n 8 h₉ b in
+    either n 8 (λ e. rw e p₈) (λ c. let h₇ = down n 7 h₈ c in either n 7 (λ e. rw e p₇) (λ d. let h₆ = down n 6 h₇ d in
+    either n 6 (λ e. rw e p₆) (λ f. let h₅ = down n 5 h₆ f in either n 5 (λ e. rw e p₅) (λ g. let h₄ = down n 4 h₅ g in
+    either n 4 (λ e. rw e p₄) (λ h. let h₃ = down n 3 h₄ h in either n 3 (λ e. rw e p₃) (λ i. let h₂ = down n 2 h₃ i in
+    either n 2 (λ e. rw e p₂) (λ j. let h₁ = down n 1 h₂ j in either n 1 (λ e. rw e p₁) (λ k. absurd (low (none-below n (down n 0 h₁ k)))))))))))))
+
+module _ (first long : ℕ) where
+  pub unknown-0 : first ≡ 0 → listed first long ≡ false
+  unfolding listed
+  unknown-0 e = rw e
+
+  pub unknown : 10 < first → listed first long ≡ false
+  unfolding listed
+  unknown h =
+      let other : (k : ℕ) → k ≤ 10 → eqb first k ≡ false = λ k small. ne-eqb _ _ (λ (e : first ≡ k). omega arith) in
+      simp (
+        other 1 (omega arith),
+        other 2 (omega arith),
+        other 3 (omega arith),
+        other 4 (omega arith),
+        other 5 (omega arith),
+        other 6 (omega arith),
+        other 7 (omega arith),
+        other 8 (omega arith),
+        other 9 (omega arith),
+        other 10 (omega arith),
+      )
+
+  module _ (low : first ≡ 0 → ⊥) (high : first ≤ 10) where
+    pub as-listed : long ≡ row first → listed first long ≡ true
+    unfolding listed
+    as-listed = ten (λ k. long ≡ row k → listed k long ≡ true) (λ e. rw e) (λ e. rw e) (λ e. rw e) (λ e. rw e) (λ e. rw e) (λ e. rw e) (λ e. rw e)
+        (λ e. rw e) (λ e. rw e) (λ e. rw e) first low high
+
+    pub too-short : long < row first → listed first long ≡ false
+    unfolding listed
+    too-short =
+        let short : (n : ℕ) → long < n → eqb long n ≡ false = λ n h. ne-eqb _ _ (λ (e : long ≡ n). omega arith) in
+        ten (λ k. long < row k → listed k long ≡ false) (short 4) (short 3) (lt-leb 2 long) (short 2) (short 3) (short 3) (lt-leb 2 long) (short 1) (short 2)
+        (short 2) first low high
+
+    pub may-be-longer : first ≡ 0x03 → row first ≤ long → listed first long ≡ true
+    unfolding listed
+    may-be-longer e = rw e (le-leb 2 long)
+
+    pub longer : (first ≡ 0x03 → ⊥) → (long ≡ row first → ⊥) → row first ≤ long → eqb first 0x07 ≡ listed first long
+    unfolding listed
+    longer =
+        let long-by : (n : ℕ) → (long ≡ n → ⊥) → false ≡ eqb long n = λ n h. sym (ne-eqb _ _ h) in
+        ten (λ k. (k ≡ 0x03 → ⊥) → (long ≡ row k → ⊥) → row k ≤ long → eqb k 0x07 ≡ listed k long) (λ a b c. long-by 4 b) (λ a b c. long-by 3 b)
+        (λ a b c. absurd (a refl)) (λ a b c. long-by 2 b) (λ a b c. long-by 3 b) (λ a b c. long-by 3 b) (λ a b c. sym (le-leb 2 long c))
+        (λ a b c. long-by 1 b) (λ a b c. long-by 2 b) (λ a b c. long-by 2 b) first low high

@@ -21,41 +21,30 @@ use hexadecimal::Line;
 use paper::Answer;
 use paper::Refusal;
 
-// "an unknown first byte, or a length not listed below"
+// How many bytes a frame has, by its first byte; 03 and 07 may have more.
+const LONG: [u8; 11] = [0, 4, 3, 2, 2, 3, 3, 2, 1, 2, 2];
+
+// "an unknown first byte, or a length not listed below": by a table, so that frames of all kinds take one way here.
 fn is_listed(first: u8, long: usize) -> bool
     ensures { λ r. ⌜ r ≡ listed first long ⌝ }
 {
-    if first == 0x01 {
-        return long == 4;
+    if first == 0 {
+        return false;
     }
-    if first == 0x02 {
-        return long == 3;
+    if 10 < first {
+        return false;
+    }
+    let least = wide(LONG[first as usize]);
+    if long == least {
+        return true;
+    }
+    if long < least {
+        return false;
     }
     if first == 0x03 {
-        return 2 <= long;
+        return true;
     }
-    if first == 0x04 {
-        return long == 2;
-    }
-    if first == 0x05 {
-        return long == 3;
-    }
-    if first == 0x06 {
-        return long == 3;
-    }
-    if first == 0x07 {
-        return 2 <= long;
-    }
-    if first == 0x08 {
-        return long == 1;
-    }
-    if first == 0x09 {
-        return long == 2;
-    }
-    if first == 0x0A {
-        return long == 2;
-    }
-    false
+    first == 0x07
 }
 
 // Where a frame's call goes: the number of a channel, or one of these.

@@ -72,13 +72,16 @@ struct Carried {
 }
 
 // Serves a piece to its end, and writes out what is answered whenever there is no room for more, and at the end.
-fn answer(start: Card, piece: &[u8], held: Line, frame: &mut [u8], out: &mut [u8]) -> Carried
-    requires { ⌜ Sound depth twelve start × (Fits held (now frame) × (79 ≤ length (now out))) ⌝ }
+fn answer(before: Carried, piece: &[u8], frame: &mut [u8], out: &mut [u8]) -> Carried
+    requires { ⌜ Sound depth twelve (before .card) × (Fits (before .line) (now frame) × (79 ≤ length (now out))) ⌝ }
     ensures { λ r. ⌜ Sound depth twelve (r .card) × Fits (r .line) (now (frame .exit)) ⌝ }
-    ensures { λ r. ⌜ (r .open ≡ true → PieceServed (now (piece .entry)) (record { card = start; line = held; frame = now (frame .entry) })
+    ensures { λ r. ⌜ (r .open ≡ true → PieceServed (now (piece .entry))
+        (record { card = before .card; line = before .line; frame = now (frame .entry) })
         (record { card = r .card; line = r .line; frame = now (frame .exit) })) ⌝ }
 {
+    let start = before.card;
     let mut card = start;
+    let held = before.line;
     let mut line = held;
     let mut at: usize = 0;
     while at < piece.len() {
@@ -130,6 +133,7 @@ fn next_piece(piece: &mut [u8], line: Line) -> Piece
     requires { ⌜ 1 ≤ length (now piece) ⌝ }
     ensures { λ r. ⌜ r .long ≤ length (now (piece .exit)) ⌝ }
     ensures { λ r. ⌜ (r .failed ≡ false → r .last ≡ true → take (r .long) (now (piece .exit)) ≡ missing line) ⌝ }
+    ensures { λ r. ⌜ (r .last ≡ false → 1 ≤ r .long) ⌝ }
 {
     let got = read_piece(piece);
     if got < 0 {
@@ -139,7 +143,8 @@ fn next_piece(piece: &mut [u8], line: Line) -> Piece
             failed: true,
         };
     }
-    if got == 0 {
+    let long = io::count(got, piece);
+    if long == 0 {
         let long = complete(line, piece);
         return Piece {
             long,
@@ -147,7 +152,6 @@ fn next_piece(piece: &mut [u8], line: Line) -> Piece
             failed: false,
         };
     }
-    let long = io::count(got, piece);
     Piece {
         long,
         last: false,
@@ -157,30 +161,30 @@ fn next_piece(piece: &mut [u8], line: Line) -> Piece
 
 // "It reads standard input, one frame of hexadecimal a line ..., and prints one line ... for each."
 pub fn start() {
-    let mut card = Card::fresh();
-    let mut line = Line { digits: 0, last: 0 };
+    let mut carried = Carried {
+        card: Card::fresh(),
+        line: Line { digits: 0, last: 0 },
+        open: true,
+    };
     let mut frame = [0u8; hexadecimal::MOST];
     let mut piece = io::large_buffer();
     let mut out = io::large_buffer();
     let mut turns = u64::MAX;
     while turns > 0 {
         turns -= 1;
+        let line = carried.line;
         let got = next_piece(&mut piece, line);
         // a line that may not be complete is not answered
         if got.failed {
             return;
         }
         let n = got.long;
-        let carried = answer(card, &piece[..n], line, &mut frame, &mut out);
+        carried = answer(carried, &piece[..n], &mut frame, &mut out);
         if got.last {
             return;
         }
         if !carried.open {
             return;
         }
-        let next = carried.card;
-        card = next;
-        let ahead = carried.line;
-        line = ahead;
     }
 }

@@ -1,52 +1,44 @@
+use mathlib.Core.Path.{sym, _∙_}
+use Rattle.serving.proofs.Frames.{unknown-0, unknown, as-listed, too-short, may-be-longer, longer}
 use borrow.Author.Needs.{needs}
-use borrow.Author.Tests.{eq-eqb, ne-eqb}
-use Rattle.serving.specs.Asked.{listed}
 use Rattle.serving.proofs.is_listed.Statement.{statement}
 use Rattle.serving.proofs.is_listed.Tie as tie
 
 returns : tie.Need-returns
-unfolding listed
-returns c = search (needs, eq-eqb, ne-eqb)
+returns c = sym (unknown-0 _ _ (c .if1 .taken))
 
 returns-2 : tie.Need-returns-2
-unfolding listed
-returns-2 c = search (needs, eq-eqb, ne-eqb)
+returns-2 c = sym (unknown _ _ (c .if2 .taken))
+
+array-read-wide : tie.Need-array-read-wide
+array-read-wide c = search needs
+
+wide-requires : tie.Need-wide-requires
+wide-requires c κs = search needs
 
 returns-3 : tie.Need-returns-3
-unfolding listed
-returns-3 c = search (needs, eq-eqb, ne-eqb)
+returns-3 c =
+    let a = c .before .before .before .before .args in
+    let table = c .before .wide .ensures in
+    sym (as-listed (a .first) (a .long) (c .before .before .before .if1 .left) (c .before .before .if2 .left) (c .if3 .taken ∙ table))
 
 returns-4 : tie.Need-returns-4
-unfolding listed
-returns-4 c = search (needs, eq-eqb, ne-eqb)
+returns-4 c =
+    let a = c .before .before .before .before .before .args in
+    let table = c .before .before .wide .ensures in
+    sym (too-short (a .first) (a .long) (c .before .before .before .before .if1 .left) (c .before .before .before .if2 .left) (rw table at (c .if4 .taken)))
 
 returns-5 : tie.Need-returns-5
-unfolding listed
-returns-5 c = search (needs, eq-eqb, ne-eqb)
+returns-5 c =
+    let a = c .before .before .before .before .before .before .args in
+    let table = c .before .before .before .wide .ensures in
+    sym (may-be-longer (a .first) (a .long) (c .before .before .before .before .before .if1 .left) (c .before .before .before .before .if2 .left) (c .if5 .taken) (rw table at (c .before .if4 .left)))
 
 returns-6 : tie.Need-returns-6
-unfolding listed
-returns-6 c = search (needs, eq-eqb, ne-eqb)
-
-returns-7 : tie.Need-returns-7
-unfolding listed
-returns-7 c = search (needs, eq-eqb, ne-eqb)
-
-returns-8 : tie.Need-returns-8
-unfolding listed
-returns-8 c = search (needs, eq-eqb, ne-eqb)
-
-returns-9 : tie.Need-returns-9
-unfolding listed
-returns-9 c = search (needs, eq-eqb, ne-eqb)
-
-returns-10 : tie.Need-returns-10
-unfolding listed
-returns-10 c = search (needs, eq-eqb, ne-eqb)
-
-returns-11 : tie.Need-returns-11
-unfolding listed
-returns-11 c = search (needs, eq-eqb, ne-eqb)
+returns-6 c =
+    let a = c .before .before .before .before .before .before .args in
+    let table = c .before .before .before .wide .ensures in
+    longer (a .first) (a .long) (c .before .before .before .before .before .if1 .left) (c .before .before .before .before .if2 .left) (c .if5 .left) (λ e. c .before .before .if3 .left (e ∙ sym table)) (rw table at (c .before .if4 .left))
 
 pub is-listed-spec : {M : Type 1} → statement M
 is-listed-spec =
@@ -54,12 +46,9 @@ is-listed-spec =
     (tie.spec
     returns
     returns-2
+    array-read-wide
+    wide-requires
     returns-3
     returns-4
     returns-5
-    returns-6
-    returns-7
-    returns-8
-    returns-9
-    returns-10
-    returns-11)
+    returns-6)

@@ -18,7 +18,7 @@ abbrev μ-loop : tie.MeasureT-loop
 
 loop-holds : tie.Need-loop-holds Inv-loop μ-loop
 loop-holds c =
-    let p = c .before .before .before .pre in
+    let p = c .before .before .before .before .before .pre in
     (begins _ _ (p .0) (p .1 .0), (p .1 .1, refl))
 
 serve-requires : tie.Need-serve-requires Inv-loop μ-loop
@@ -36,7 +36,7 @@ write-text-requires : tie.Need-write-text-requires Inv-loop μ-loop
 write-text-requires c κs = search needs
 
 same-length : tie.Need-same-length Inv-loop μ-loop
-same-length c = search needs
+same-length c = omega (arith, c .before .before .before .before .before .before .before .before .before .before .serve .ensures .fits .room, c .before .before .before .before .before .before .before .before .before .before .before .before .before .before .before .before .before .before .before .before .pre .1 .0 .room)
 
 same-length-2 : tie.Need-same-length-2 Inv-loop μ-loop
 same-length-2 c = search needs

@@ -11,11 +11,11 @@ use Rattle.shell.proofs.start.Statement.{statement}
 use Rattle.shell.proofs.start.Tie as tie
 
 abbrev Inv-loop : tie.InvT-loop
-Inv-loop card₀ line₀ frame₀ piece₀ out₀ turns₀ card line frame piece out turns =
-    (Sound depth twelve card × Fits line frame) × ((length piece ≡ 65536) × (length out ≡ 65536))
+Inv-loop carried₀ frame₀ piece₀ out₀ turns₀ carried frame piece out turns =
+    (Sound depth twelve (carried .card) × Fits (carried .line) frame) × ((length piece ≡ 65536) × (length out ≡ 65536))
 
 abbrev μ-loop : tie.MeasureT-loop
-μ-loop card₀ line₀ frame₀ piece₀ out₀ turns₀ card line frame piece out turns = turns
+μ-loop carried₀ frame₀ piece₀ out₀ turns₀ carried frame piece out turns = turns
 
 fresh-requires : tie.Need-fresh-requires Inv-loop μ-loop
 fresh-requires c κs = search needs
@@ -52,7 +52,7 @@ slice-aggregate-answer-3 c = search needs
 
 answer-requires : tie.Need-answer-requires Inv-loop μ-loop
 answer-requires c κs =
-    let i = c .before .before .before .before .before .before .before .before .loop .inv in
+    let i = c .before .before .before .before .before .before .before .before .before .loop .inv in
     (i .0 .0, (i .0 .1, omega (arith, i .1 .1)))
 
 returns : tie.Need-returns Inv-loop μ-loop
@@ -66,7 +66,7 @@ loop-less c = search needs
 
 loop-again : tie.Need-loop-again Inv-loop μ-loop
 loop-again c =
-    let e = c .before .before .before .before .before .before .before .answer .ensures .0 in
+    let e = c .before .before .before .before .before .answer .ensures .0 in
     ((e .0, e .1), (omega arith, omega arith))
 
 returns-3 : tie.Need-returns-3 Inv-loop μ-loop
