@@ -125,13 +125,15 @@ module _ (piece : List ℕ) (spot : Spot) (before : List ℕ) (r : Next) (after 
           same = s .same;
         }
       where
-        go : Finds piece spot before r after → (rest : List ℕ) → take (spot .put) out ++ left twelve (cardIn C) (r .spot .line) after (drop (r .spot .at) piece ++ rest)
+        go : Finds piece spot before r after → (rest : List ℕ) → take (spot .put) out ++ left twelve (cardIn C) (r .spot .line) after (drop
+            (r .spot .at) piece ++ rest)
             ≡ take (from .put) out₀ ++ left twelve (cardIn C₀) (from .line) frame₀ (drop (from .at) piece ++ rest)
         go (goes-on e same) =
             lines.goes-on
             (λ K rest. left twelve K (spot .line) before (drop (spot .at) piece ++ rest))
             (λ K rest. left twelve K (r .spot .line) after (drop (r .spot .at) piece ++ rest))
-            (λ rest. take (from .put) out₀ ++ left twelve (cardIn C₀) (from .line) frame₀ (drop (from .at) piece ++ rest)) C C out (spot .put) (s .so-far) same
+            (λ rest. take (from .put) out₀ ++ left twelve (cardIn C₀) (from .line) frame₀ (drop (from .at) piece ++ rest)) C C out (spot .put)
+            (s .so-far) same
         go (ends goes splits) = absurd (omega (arith, address-small (callOf twelve (take (r .long) after)), goes, large))
 
     -- a line was answered
@@ -149,14 +151,16 @@ module _ (piece : List ℕ) (spot : Spot) (before : List ℕ) (r : Next) (after 
           same = long ∙ s .same;
         }
       where
-        go : Finds piece spot before r after → (rest : List ℕ) → take put out' ++ left twelve (cardIn D) (r .spot .line) after (drop (r .spot .at) piece ++ rest)
+        go : Finds piece spot before r after → (rest : List ℕ) → take put out' ++ left twelve (cardIn D) (r .spot .line) after (drop (r .spot .at)
+            piece ++ rest)
             ≡ take (from .put) out₀ ++ left twelve (cardIn C₀) (from .line) frame₀ (drop (from .at) piece ++ rest)
         go (goes-on e same) = absurd (omega arith)
         go (ends goes splits) =
             lines.ends
             (λ K rest. left twelve K (spot .line) before (drop (spot .at) piece ++ rest))
             (λ K rest. left twelve K (r .spot .line) after (drop (r .spot .at) piece ++ rest))
-            (λ rest. take (from .put) out₀ ++ left twelve (cardIn C₀) (from .line) frame₀ (drop (from .at) piece ++ rest)) C D out (spot .put) (s .so-far)
+            (λ rest. take (from .put) out₀ ++ left twelve (cardIn C₀) (from .line) frame₀ (drop (from .at) piece ++ rest)) C D out (spot .put)
+            (s .so-far)
             (callOf twelve (take (r .long) after)) text out' put splits replies (rw (l .put) at w)
 
     -- a channel's line

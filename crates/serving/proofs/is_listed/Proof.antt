@@ -26,19 +26,22 @@ returns-4 : tie.Need-returns-4
 returns-4 c =
     let a = c .before .before .before .before .before .args in
     let table = c .before .before .wide .ensures in
-    sym (too-short (a .first) (a .long) (c .before .before .before .before .if1 .left) (c .before .before .before .if2 .left) (rw table at (c .if4 .taken)))
+    sym (too-short (a .first) (a .long) (c .before .before .before .before .if1 .left) (c .before .before .before .if2 .left) (rw table at
+    (c .if4 .taken)))
 
 returns-5 : tie.Need-returns-5
 returns-5 c =
     let a = c .before .before .before .before .before .before .args in
     let table = c .before .before .before .wide .ensures in
-    sym (may-be-longer (a .first) (a .long) (c .before .before .before .before .before .if1 .left) (c .before .before .before .before .if2 .left) (c .if5 .taken) (rw table at (c .before .if4 .left)))
+    sym (may-be-longer (a .first) (a .long) (c .before .before .before .before .before .if1 .left) (c .before .before .before .before .if2 .left)
+    (c .if5 .taken) (rw table at (c .before .if4 .left)))
 
 returns-6 : tie.Need-returns-6
 returns-6 c =
     let a = c .before .before .before .before .before .before .args in
     let table = c .before .before .before .wide .ensures in
-    longer (a .first) (a .long) (c .before .before .before .before .before .if1 .left) (c .before .before .before .before .if2 .left) (c .if5 .left) (λ e. c .before .before .if3 .left (e ∙ sym table)) (rw table at (c .before .if4 .left))
+    longer (a .first) (a .long) (c .before .before .before .before .before .if1 .left) (c .before .before .before .before .if2 .left) (c .if5 .left)
+    (λ e. c .before .before .if3 .left (e ∙ sym table)) (rw table at (c .before .if4 .left))
 
 pub is-listed-spec : {M : Type 1} → statement M
 is-listed-spec =

@@ -91,7 +91,8 @@ unfolding callIn
 returns-3 c =
     let a = c .before .before .before .before .before .before .before .before .before .before .before in
     let l = a .pre .1 in
-    let e = is-state (a .args .frame .now) (l .0) (l .1 .0) (c .before .before .before .before .before .before .before .if1 .left) (l .1 .1) (c .before .before .before .before .before .before .if2 .left) in
+    let e = is-state (a .args .frame .now) (l .0) (l .1 .0) (c .before .before .before .before .before .before .before .if1 .left) (l .1 .1)
+    (c .before .before .before .before .before .before .if2 .left) in
     let p = c .before .before .before .before .before .state .ensures in
     let s = c .before .before .say3 .ensures in
     rw e (said _ _ _ _ p _ _ _ _ (s .0) (s .1))

@@ -31,7 +31,8 @@ returns : tie.Need-returns
 unfolding callIn
 returns c =
     let p = c .before .before .before .before .before .arrive .ensures in
-    rw (c .before .before .before .before .before .before .before .before .if1 .taken) (said _ _ _ _ p _ _ _ _ (c .before .before .say .ensures .0) (c .before .before .say .ensures .1))
+    rw (c .before .before .before .before .before .before .before .before .if1 .taken) (said _ _ _ _ p _ _ _ _ (c .before .before .say .ensures .0)
+    (c .before .before .say .ensures .1))
 
 shared-slice-read-wide : tie.Need-shared-slice-read-wide
 shared-slice-read-wide c =
@@ -60,8 +61,10 @@ returns-2 : tie.Need-returns-2
 unfolding callIn
 returns-2 c =
     let a = c .before .before .before .before .before .before .before .before .before .before .before .before .before .before in
-    let p = rw (c .before .before .before .before .before .before .before .before .wide .ensures) at (c .before .before .before .before .before .before .read .ensures) in
-    let e = is-read (a .args .frame .now) (a .pre .1 .0) (a .pre .1 .1) (c .before .before .before .before .before .before .before .before .before .before .if1 .left) in
+    let p = rw (c .before .before .before .before .before .before .before .before .wide .ensures) at
+    (c .before .before .before .before .before .before .read .ensures) in
+    let e = is-read (a .args .frame .now) (a .pre .1 .0) (a .pre .1 .1)
+    (c .before .before .before .before .before .before .before .before .before .before .if1 .left) in
     rw e (said _ _ _ _ p _ _ _ _ (c .before .before .say2 .ensures .0) (c .before .before .say2 .ensures .1))
 
 pub receive-spec : {M : Type 1} → statement M

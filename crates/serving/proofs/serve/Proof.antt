@@ -67,7 +67,9 @@ receive-requires c κs =
     let s = c .before .before .before .before .before .before .before .before .before .before .before .before .before .before .before .before .loop .inv in
     let small = c .before .before .before .before .before .if3 .taken in
     let to = goes _ _ _ _ _ l small in
-    ((channel-sound depth twelve _ (s .sound) _ _ small, omega (arith, l .put, c .before .before .before .before .before .before .before .before .before .before .before .before .if2 .left)), (to .listed, omega (arith, to .first, c .before .before .if4 .taken)))
+    ((channel-sound depth twelve _ (s .sound) _ _ small, omega (arith, l .put,
+    c .before .before .before .before .before .before .before .before .before .before .before .before .if2 .left)), (to .listed, omega (arith,
+    to .first, c .before .before .if4 .taken)))
 
 mul-channel : tie.Need-mul-channel Inv-loop μ-loop
 mul-channel c = search needs
@@ -82,7 +84,8 @@ loop-again : tie.Need-loop-again Inv-loop μ-loop
 loop-again c =
     let l = c .before .before .before .before .before .before .before .before .before .before .before .before .before .next-line .ensures in
     let s = c .before .before .before .before .before .before .before .before .before .before .before .before .before .before .before .before .before .before .before .before .loop .inv in
-    channel-line _ _ _ _ _ l _ _ _ _ _ _ s (c .before .before .before .before .before .before .before .before .before .if3 .taken) _ _ _ (c .before .before .before .receive .ensures) (omega arith)
+    channel-line _ _ _ _ _ l _ _ _ _ _ _ s (c .before .before .before .before .before .before .before .before .before .if3 .taken) _ _ _
+    (c .before .before .before .receive .ensures) (omega arith)
 
 slice-read-if5 : tie.Need-slice-read-if5 Inv-loop μ-loop
 slice-read-if5 c = search needs
@@ -101,7 +104,9 @@ transmit-requires c κs =
     let s = c .before .before .before .before .before .before .before .before .before .before .before .before .before .before .before .before .before .before .loop .inv in
     let small = c .before .before .before .before .before .before .before .if3 .taken in
     let to = goes _ _ _ _ _ l small in
-    ((channel-sound depth twelve _ (s .sound) _ _ small, omega (arith, l .put, c .before .before .before .before .before .before .before .before .before .before .before .before .before .before .if2 .left)), (to .listed, (omega (arith, to .first, c .before .before .before .before .if4 .left), omega (arith, to .first, c .before .before .if5 .taken))))
+    ((channel-sound depth twelve _ (s .sound) _ _ small, omega (arith, l .put,
+    c .before .before .before .before .before .before .before .before .before .before .before .before .before .before .if2 .left)), (to .listed,
+    (omega (arith, to .first, c .before .before .before .before .if4 .left), omega (arith, to .first, c .before .before .if5 .taken))))
 
 mul-channel-2 : tie.Need-mul-channel-2 Inv-loop μ-loop
 mul-channel-2 c = search needs
@@ -116,7 +121,8 @@ loop-again-2 : tie.Need-loop-again-2 Inv-loop μ-loop
 loop-again-2 c =
     let l = c .before .before .before .before .before .before .before .before .before .before .before .before .before .before .before .next-line .ensures in
     let s = c .before .before .before .before .before .before .before .before .before .before .before .before .before .before .before .before .before .before .before .before .before .before .loop .inv in
-    channel-line _ _ _ _ _ l _ _ _ _ _ _ s (c .before .before .before .before .before .before .before .before .before .before .before .if3 .taken) _ _ _ (c .before .before .before .transmit .ensures) (omega arith)
+    channel-line _ _ _ _ _ l _ _ _ _ _ _ s (c .before .before .before .before .before .before .before .before .before .before .before .if3 .taken) _
+    _ _ (c .before .before .before .transmit .ensures) (omega arith)
 
 slice-reshare-prefix-manage : tie.Need-slice-reshare-prefix-manage Inv-loop μ-loop
 slice-reshare-prefix-manage c = search needs
@@ -132,7 +138,9 @@ manage-requires c κs =
     let s = c .before .before .before .before .before .before .before .before .before .before .before .before .before .before .before .before .before .before .loop .inv in
     let small = c .before .before .before .before .before .before .before .if3 .taken in
     let to = goes _ _ _ _ _ l small in
-    ((channel-sound depth twelve _ (s .sound) _ _ small, omega (arith, l .put, c .before .before .before .before .before .before .before .before .before .before .before .before .before .before .if2 .left)), (to .listed, (omega (arith, to .first, c .before .before .if5 .left), λ e. to .other (sym (to .first) ∙ e))))
+    ((channel-sound depth twelve _ (s .sound) _ _ small, omega (arith, l .put,
+    c .before .before .before .before .before .before .before .before .before .before .before .before .before .before .if2 .left)), (to .listed,
+    (omega (arith, to .first, c .before .before .if5 .left), λ e. to .other (sym (to .first) ∙ e))))
 
 mul-channel-3 : tie.Need-mul-channel-3 Inv-loop μ-loop
 mul-channel-3 c = search needs
@@ -147,12 +155,14 @@ loop-again-3 : tie.Need-loop-again-3 Inv-loop μ-loop
 loop-again-3 c =
     let l = c .before .before .before .before .before .before .before .before .before .before .before .before .before .before .before .next-line .ensures in
     let s = c .before .before .before .before .before .before .before .before .before .before .before .before .before .before .before .before .before .before .before .before .before .before .loop .inv in
-    channel-line _ _ _ _ _ l _ _ _ _ _ _ s (c .before .before .before .before .before .before .before .before .before .before .before .if3 .taken) _ _ _ (c .before .before .before .manage .ensures) (omega arith)
+    channel-line _ _ _ _ _ l _ _ _ _ _ _ s (c .before .before .before .before .before .before .before .before .before .before .before .if3 .taken) _
+    _ _ (c .before .before .before .manage .ensures) (omega arith)
 
 answer-aside-requires : tie.Need-answer-aside-requires Inv-loop μ-loop
 answer-aside-requires c κs =
     let l = c .before .before .before .before .before .before .next-line .ensures in
-    (c .before .before .before .before .before .before .before .before .before .before .before .before .before .loop .inv .sound, (omega (arith, l .put, c .before .before .before .before .before .before .before .before .before .if2 .left), c .before .before .if3 .left))
+    (c .before .before .before .before .before .before .before .before .before .before .before .before .before .loop .inv .sound, (omega (arith,
+    l .put, c .before .before .before .before .before .before .before .before .before .if2 .left), c .before .before .if3 .left))
 
 loop-less-4 : tie.Need-loop-less-4 Inv-loop μ-loop
 loop-less-4 c = search needs
@@ -171,7 +181,8 @@ loop-less-5 c = search needs
 loop-again-5 : tie.Need-loop-again-5 Inv-loop μ-loop
 loop-again-5 c =
     let l = c .before .before .before .before .before .next-line .ensures in
-    open-line _ _ _ _ _ l _ _ _ _ _ _ (c .before .before .before .before .before .before .before .before .before .before .before .before .loop .inv) (c .if6 .left)
+    open-line _ _ _ _ _ l _ _ _ _ _ _ (c .before .before .before .before .before .before .before .before .before .before .before .before .loop .inv)
+    (c .if6 .left)
 
 same-length : tie.Need-same-length Inv-loop μ-loop
 same-length c = search needs

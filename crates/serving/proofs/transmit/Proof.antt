@@ -102,7 +102,8 @@ shared-slice-read-ask-special : tie.Need-shared-slice-read-ask-special
 shared-slice-read-ask-special c =
     let a = c .before .before .before .before .before .before .before in
     let l = a .pre .1 in
-    let e = is-special (a .args .frame .now) (l .0) (l .1 .0) (l .1 .1) (c .before .before .before .if1 .left) (c .before .before .if2 .left) (c .before .if3 .left) in
+    let e = is-special (a .args .frame .now) (l .0) (l .1 .0) (l .1 .1) (c .before .before .before .if1 .left) (c .before .before .if2 .left)
+    (c .before .if3 .left) in
     omega (arith, special-long (a .args .frame .now) (l .0) e)
 
 ask-special-requires : tie.Need-ask-special-requires
@@ -122,7 +123,10 @@ unfolding callIn
 returns-4 c =
     let a = c .before .before .before .before .before .before .before .before .before .before .before .before .before in
     let l = a .pre .1 in
-    let e = is-special (a .args .frame .now) (l .0) (l .1 .0) (l .1 .1) (c .before .before .before .before .before .before .before .before .before .if1 .left) (c .before .before .before .before .before .before .before .before .if2 .left) (c .before .before .before .before .before .before .before .if3 .left) in
+    let e = is-special (a .args .frame .now) (l .0) (l .1 .0) (l .1 .1)
+    (c .before .before .before .before .before .before .before .before .before .if1 .left)
+    (c .before .before .before .before .before .before .before .before .if2 .left)
+    (c .before .before .before .before .before .before .before .if3 .left) in
     let p = c .before .before .before .before .before .ask-special .ensures in
     let s = c .before .before .say4 .ensures in
     rw e (said _ _ _ _ p _ _ _ _ (s .0) (s .1))
