@@ -180,8 +180,13 @@ module _ (places : ℕ) (z : Size) (C : Card) (s : Sound places z C) where
     -- a channel's call on a card
     pub serves : (n : ℕ) (d : Channel) (call : ChannelCall) (r : one.Answered) (l : List ℕ) → n ≤ 3
         → channel-promise.Promise places z (getD (C .channels) n d) call r l
-        → Promise places z C (on n call) (record { answer = r .answer; card = record { channels = set (C .channels) n (r .channel); place = C .place
-        } }) l
+        → Promise places z C (on n call) (record {
+          answer = r .answer;
+          card = record {
+            channels = set (C .channels) n (r .channel);
+            place = C .place;
+          };
+        }) l
     unfolding answered given step cardOf cardIn channel-promise.answered channel-promise.given
     serves n d call r l small p =
         let x = getD (C .channels) n d in

@@ -35,8 +35,19 @@ module _ (f : List ℕ) where
       either (getD f 0 0) 4 (λ e. rw e) (λ d. either (getD f 0 0) 5 (λ e. rw e) (λ g. either (getD f 0 0) 6 (λ e. rw e) (λ h.
       either (getD f 0 0) 7 (λ e. rw e) (λ i. either (getD f 0 0) 8 (λ e. rw e) (λ j. either (getD f 0 0) 9 (λ e. rw e) (λ k.
       either (getD f 0 0) 10 (λ e. rw e) (λ l.
-      simp (ne-eqb _ _ a, ne-eqb _ _ b, ne-eqb _ _ c, ne-eqb _ _ d, ne-eqb _ _ g, ne-eqb _ _ h, ne-eqb _ _ i, ne-eqb _ _ j, ne-eqb _ _ k, ne-eqb _ _
-      l)))))))))))
+      simp (
+        ne-eqb _ _ a,
+        ne-eqb _ _ b,
+        ne-eqb _ _ c,
+        ne-eqb _ _ d,
+        ne-eqb _ _ g,
+        ne-eqb _ _ h,
+        ne-eqb _ _ i,
+        ne-eqb _ _ j,
+        ne-eqb _ _ k,
+        ne-eqb _ _
+            l,
+      )))))))))))
 
   pub nowhere : listed (getD f 0 0) (length f) ≡ false → addressOf (callOf twelve f) ≡ 6
   unfolding addressOf

@@ -46,7 +46,7 @@ returns-3 c asked e =
     record {
       text = _;
       replies = replies-none (a .args .card) (a .pre .0) asked (is-none asked (rw e at (a .pre .1 .1)) (λ is.
-      c .before .before .before .before .before .before .if1 .left (e ∙ is))
+          c .before .before .before .before .before .before .if1 .left (e ∙ is))
           (λ is. c .before .before .before .before .before .if2 .left (e ∙ is)));
       wrote = c .before .before .put-answer2 .ensures;
     }

@@ -66,10 +66,24 @@ receive-requires c κs =
     let l = c .before .before .before .before .before .before .before .before .before .next-line .ensures in
     let s = c .before .before .before .before .before .before .before .before .before .before .before .before .before .before .before .before .loop .inv in
     let small = c .before .before .before .before .before .if3 .taken in
-    let to = goes _ _ _ _ _ l small in
-    ((channel-sound depth twelve _ (s .sound) _ _ small, omega (arith, l .put,
-    c .before .before .before .before .before .before .before .before .before .before .before .before .if2 .left)), (to .listed, omega (arith,
-    to .first, c .before .before .if4 .taken)))
+    let to = goes _ _ _ _ _ l small in (
+      (
+        channel-sound depth twelve _ (s .sound) _ _ small,
+        omega (
+          arith,
+          l .put,
+          c .before .before .before .before .before .before .before .before .before .before .before .before .if2 .left,
+        ),
+      ),
+      (
+        to .listed,
+        omega (
+          arith,
+          to .first,
+          c .before .before .if4 .taken,
+        ),
+      ),
+    )
 
 mul-channel : tie.Need-mul-channel Inv-loop μ-loop
 mul-channel c = search needs
@@ -103,10 +117,20 @@ transmit-requires c κs =
     let l = c .before .before .before .before .before .before .before .before .before .before .before .next-line .ensures in
     let s = c .before .before .before .before .before .before .before .before .before .before .before .before .before .before .before .before .before .before .loop .inv in
     let small = c .before .before .before .before .before .before .before .if3 .taken in
-    let to = goes _ _ _ _ _ l small in
-    ((channel-sound depth twelve _ (s .sound) _ _ small, omega (arith, l .put,
-    c .before .before .before .before .before .before .before .before .before .before .before .before .before .before .if2 .left)), (to .listed,
-    (omega (arith, to .first, c .before .before .before .before .if4 .left), omega (arith, to .first, c .before .before .if5 .taken))))
+    let to = goes _ _ _ _ _ l small in (
+      (
+        channel-sound depth twelve _ (s .sound) _ _ small,
+        omega (
+          arith,
+          l .put,
+          c .before .before .before .before .before .before .before .before .before .before .before .before .before .before .if2 .left,
+        ),
+      ),
+      (
+        to .listed,
+        (omega (arith, to .first, c .before .before .before .before .if4 .left), omega (arith, to .first, c .before .before .if5 .taken)),
+      ),
+    )
 
 mul-channel-2 : tie.Need-mul-channel-2 Inv-loop μ-loop
 mul-channel-2 c = search needs
@@ -137,10 +161,20 @@ manage-requires c κs =
     let l = c .before .before .before .before .before .before .before .before .before .before .before .next-line .ensures in
     let s = c .before .before .before .before .before .before .before .before .before .before .before .before .before .before .before .before .before .before .loop .inv in
     let small = c .before .before .before .before .before .before .before .if3 .taken in
-    let to = goes _ _ _ _ _ l small in
-    ((channel-sound depth twelve _ (s .sound) _ _ small, omega (arith, l .put,
-    c .before .before .before .before .before .before .before .before .before .before .before .before .before .before .if2 .left)), (to .listed,
-    (omega (arith, to .first, c .before .before .if5 .left), λ e. to .other (sym (to .first) ∙ e))))
+    let to = goes _ _ _ _ _ l small in (
+      (
+        channel-sound depth twelve _ (s .sound) _ _ small,
+        omega (
+          arith,
+          l .put,
+          c .before .before .before .before .before .before .before .before .before .before .before .before .before .before .if2 .left,
+        ),
+      ),
+      (
+        to .listed,
+        (omega (arith, to .first, c .before .before .if5 .left), λ e. to .other (sym (to .first) ∙ e)),
+      ),
+    )
 
 mul-channel-3 : tie.Need-mul-channel-3 Inv-loop μ-loop
 mul-channel-3 c = search needs
@@ -160,9 +194,17 @@ loop-again-3 c =
 
 answer-aside-requires : tie.Need-answer-aside-requires Inv-loop μ-loop
 answer-aside-requires c κs =
-    let l = c .before .before .before .before .before .before .next-line .ensures in
-    (c .before .before .before .before .before .before .before .before .before .before .before .before .before .loop .inv .sound, (omega (arith,
-    l .put, c .before .before .before .before .before .before .before .before .before .if2 .left), c .before .before .if3 .left))
+    let l = c .before .before .before .before .before .before .next-line .ensures in (
+      c .before .before .before .before .before .before .before .before .before .before .before .before .before .loop .inv .sound,
+      (
+        omega (
+          arith,
+          l .put,
+          c .before .before .before .before .before .before .before .before .before .if2 .left,
+        ),
+        c .before .before .if3 .left,
+      ),
+    )
 
 loop-less-4 : tie.Need-loop-less-4 Inv-loop μ-loop
 loop-less-4 c = search needs

@@ -54,9 +54,14 @@ loop-less c =
 
 loop-again : tie.Need-loop-again Inv-loop μ-loop
 loop-again c =
-    let i = c .before .before .before .before .before .before .before .before .before .before .before .before .before .before .loop .inv in
-    (goes-on _ _ _ _ (i .0) _ _ _ _ (c .before .before .before .before .before .before .before .before .before .before .serve .ensures), (omega
-    arith, omega arith))
+    let i = c .before .before .before .before .before .before .before .before .before .before .before .before .before .before .loop .inv in (
+      goes-on _ _ _ _ (i .0) _ _ _ _ (c .before .before .before .before .before .before .before .before .before .before .serve .ensures),
+      (
+        omega
+            arith,
+        omega arith,
+      ),
+    )
 
 same-length-3 : tie.Need-same-length-3 Inv-loop μ-loop
 same-length-3 c = search needs
