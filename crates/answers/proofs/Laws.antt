@@ -15,20 +15,20 @@ use Rattle.paper.specs.Settings.{twelve, badField}
 use Rattle.paper.specs.Arrival.{NL}
 use Rattle.paper.specs.Queue.{Slot, oldest, itemsOf, overruns}
 use Rattle.paper.specs.Stream.{images}
-use Rattle.paper.specs.Transmitter.{Transmitter, transmitDepth, LineCall, load, turn, cts, special, loaded, sendNext, held, turned, specialTaken, lineStep}
+use Rattle.paper.specs.Transmitter.{Transmitter, transmitDepth, LineCall, load, turn, cts, special}
+use Rattle.paper.specs.Transmitter.{loaded, sendNext, held, turned, specialTaken, lineStep}
 use Rattle.paper.specs.Channel.{Channel, ChannelCall, arrive, read, settings, reset, state, line, noRoom, handedOver, settingsTaken, channelStep}
 use Rattle.paper.specs.Card.{Card, Call, on, pick, at, step}
 use Rattle.paper.specs.Bounds.{SoundChannel, Sound}
 use Rattle.paper.specs.Frames.{hexadecimal}
-use Rattle.paper.specs.Numbers.{refusalNumbers, numbers}
+use Rattle.paper.specs.Numbers.{refusalNumbers}
 use Rattle.paper.specs.declared.Settings.{Settings}
 use Rattle.paper.specs.declared.Flags.{Flags}
 use Rattle.paper.specs.declared.Item.{Item}
 use Rattle.paper.specs.declared.Item.the-variants.{Plain, Doubled, Damaged}
 use Rattle.paper.specs.declared.Refusal.{Refusal}
-use Rattle.paper.specs.declared.Refusal.the-variants.{BadChannel, BadKind, TooMany, NoRoom, BadField, BadSpecial, SpecialWaits, BrokenStream, ShortOutput, BadCts, BadLine}
-use Rattle.paper.specs.declared.Answer.{Answer}
-use Rattle.paper.specs.declared.Answer.the-variants as answers
+use Rattle.paper.specs.declared.Refusal.the-variants.{BadChannel, BadKind, TooMany, NoRoom, BadField, BadSpecial}
+use Rattle.paper.specs.declared.Refusal.the-variants.{SpecialWaits, BrokenStream, ShortOutput, BadCts, BadLine}
 use Rattle.demands.proofs.Choices.{chosen, either}
 use Rattle.demands.proofs.Cases.{by-number, by-pick}
 use Rattle.hexadecimal.specs.Written.{Wrote}
@@ -74,8 +74,8 @@ alone ShortOutput f p = refl
 alone BadCts f p = refl
 alone BadLine f p = refl
 
--- what fits a line is at most 39 numbers
-refusal-short : (r : Refusal) → length (refusalNumbers r) ≤ 2
+-- what stands before a line's newline: of a refusal at most two numbers, of a read's bytes at most 36
+pub refusal-short : (r : Refusal) → length (hexadecimal (refusalNumbers r)) ≤ 4
 refusal-short BadChannel = omega arith
 refusal-short BadKind = omega arith
 refusal-short TooMany = omega arith
@@ -88,20 +88,8 @@ refusal-short ShortOutput = omega arith
 refusal-short BadCts = omega arith
 refusal-short BadLine = omega arith
 
-numbers-short : (a : Answer) (lent : List ℕ) → Small a lent → length (numbers a lent) ≤ 39
-numbers-short (answers.Refused r) lent s = omega (arith, refusal-short r)
-numbers-short (answers.Fated f) lent s = omega arith
-numbers-short (answers.Handed characters flagged bytes) lent s = omega (arith, s .short, length-take bytes lent)
-numbers-short (answers.Took n) lent s = omega arith
-numbers-short answers.Silent lent s = omega arith
-numbers-short (answers.Sent b) lent s = omega arith
-numbers-short answers.Done lent s = omega arith
-numbers-short (answers.Shown waiting sending stopped losses) lent s = omega arith
-numbers-short (answers.Picked n) lent s = omega arith
-numbers-short answers.NoneReady lent s = omega arith
-
-pub short : (a : Answer) (lent : List ℕ) → Small a lent → length (hexadecimal (numbers a lent)) ≤ 78
-short a lent s = omega (arith, length-hexadecimal (numbers a lent), numbers-short a lent s)
+pub read-short : (bytes : ℕ) (lent : List ℕ) → bytes ≤ 36 → length (hexadecimal (take bytes lent)) ≤ 72
+read-short bytes lent h = omega (arith, length-hexadecimal (take bytes lent), length-take bytes lent)
 
 -- EVERY ANSWER OF THE PAPER'S STEP ON A SOUND CHANNEL OR CARD FITS A LINE
 

@@ -5,7 +5,8 @@ use lib.ListN.{length, getD}
 use Rattle.paper.specs.Numbers.{refusalNumbers, numbers}
 use Rattle.paper.specs.Frames.{hexadecimal, newline}
 use Rattle.paper.specs.declared.Refusal.{Refusal}
-use Rattle.paper.specs.declared.Refusal.the-variants.{BadChannel, BadKind, TooMany, NoRoom, BadField, BadSpecial, SpecialWaits, BrokenStream, ShortOutput, BadCts, BadLine}
+use Rattle.paper.specs.declared.Refusal.the-variants.{BadChannel, BadKind, TooMany, NoRoom, BadField, BadSpecial}
+use Rattle.paper.specs.declared.Refusal.the-variants.{SpecialWaits, BrokenStream, ShortOutput, BadCts, BadLine}
 use Rattle.paper.specs.declared.Answer.{Answer}
 use Rattle.paper.specs.declared.Answer.the-variants as answers
 

@@ -1,12 +1,12 @@
 -- Arrays whose unused places hold zeros, at any number of places.
-use mathlib.Core.Path.{_≡_, refl, ap, sym, subst, _∙_}
-use mathlib.Core.List.{List, [], _∷_, _++_, append-assoc, append-nil}
+use mathlib.Core.Path.{_≡_, refl, ap}
+use mathlib.Core.List.{List, [], _∷_, _++_, append-assoc}
 use Prim.Native.Nat.{ℕ, zero, suc, _+_, _-_, _≤_, _<_, min}
 use native.Mathlib.Omega.{arith}
-use native.Mathlib.Nat.{add-comm, zero-min, min-zero, suc-min-suc}
+use native.Mathlib.Nat.{add-comm, zero-add, zero-min, min-zero, suc-min-suc}
 use native.Mathlib.Numerals.{add-one}
-use lib.ListN.{length, take, drop, set, getD, replicate, length-append, length-take, length-drop, length-set, length-replicate, take-append-drop, drop-of-length-le, replicate-append-replicate, getD-replicate}
-use lib.Seq.{set-append-seam, set-append-left, drop-append-le, getD-drop, getD-append-add, drop-cons, take-suc, set-at, take-at, length-take-le, take-all}
+use lib.ListN.{length, take, drop, set, getD, replicate, length-append, length-drop, length-set, length-replicate, replicate-append-replicate}
+use lib.Seq.{set-append-seam, set-append-left, drop-append-le, getD-drop, take-suc, length-take-le, take-all}
 use Rattle.arrays.specs.Padded.{padded}
 
 -- all the places
@@ -43,61 +43,21 @@ padded-drop places n l h k =
     let e : places - length l + n ≡ places - length (drop n l) = omega (arith, length-drop n l) in
     rw (drop-append-le, append-assoc, replicate-append-replicate, e)
 
--- An array whose places are written from the left: the first i hold what is to come, the others what stood there.
-abbrev pub over : (old new : List ℕ) (i : ℕ) → List ℕ
-over old new i = take i new ++ drop i old
+-- An array of zeros takes, place by place, what stands in another from n on: the array when i places are written
+abbrev pub closing : (places : List ℕ) (n i : ℕ) → List ℕ
+closing places n i = padded (length places) (take i (drop n places))
 
-pub over-step : (old new : List ℕ) (i a : ℕ) → i < length old → i < length new → a ≡ getD new i 0 → set (over old new i) i a ≡ over old new (i + 1)
-over-step old new i a h k e =
-    rw (e, add-one, drop-cons old i 0, set-at (take i new) _ _ (getD new i 0) i (length-take-le i new (omega arith)), take-suc new i 0, append-assoc)
+pub closing-step : (places : List ℕ) (n i : ℕ) → i + n < length places
+    → set (closing places n i) i (getD places (i + n) 0) ≡ closing places n (i + 1)
+closing-step places n i h =
+    let l : i < length (drop n places) = omega (arith, length-drop n places) in
+    rw (add-comm i n, ← getD-drop n places i 0) (rw zero-add at (padded-more (length places) [] (drop n places) i (omega arith) l))
 
-pub length-over : (old new : List ℕ) (i : ℕ) → i ≤ length old → i ≤ length new → length (over old new i) ≡ length old
-length-over old new i h k = simp (length-append, length-take, length-drop) (omega arith)
-
-getD-beyond : (xs ys : List ℕ) (i n : ℕ) → length xs ≡ i → getD (xs ++ ys) (i + n) 0 ≡ getD ys n 0
-getD-beyond xs ys i n e = subst (λ (k : ℕ). getD (xs ++ ys) (k + n) 0 ≡ getD ys n 0) e (getD-append-add xs ys n 0)
-
--- each place takes the element that stands n further on
-pub move-step : (old : List ℕ) (n i : ℕ) → i + n < length old
-    → set (over old (drop n old) i) i (getD (over old (drop n old) i) (i + n) 0) ≡ over old (drop n old) (i + 1)
-move-step old n i h =
-    let l : i < length (drop n old) = omega (arith, length-drop n old) in
-    over-step old (drop n old) i _ (omega arith) l
-    (getD-beyond (take i (drop n old)) (drop i old) i n (length-take-le i (drop n old) (omega arith)) ∙ getD-drop i old n 0
-    ∙ ap (λ (k : ℕ). getD old k 0) (add-comm i n) ∙ sym (getD-drop n old i 0))
-
--- the places from one on take zeros
-abbrev pub cleared : List ℕ → ℕ → List ℕ
-cleared old from = take from old ++ replicate (length old - from) 0
-
-module _ (old : List ℕ) (from : ℕ) (inside : from ≤ length old) where
-  pub length-cleared : length (cleared old from) ≡ length old
-  length-cleared = simp (length-append, length-take, length-replicate) (omega arith)
-
-  pub clear-step : (i : ℕ) → from ≤ i → i < length old → set (over old (cleared old from) i) i 0 ≡ over old (cleared old from) (i + 1)
-  clear-step i h k =
-      let e : i ≡ from + (i - from) = omega arith in
-      over-step old (cleared old from) i 0 k (omega (arith, length-cleared))
-      (sym (ap (λ (m : ℕ). getD (cleared old from) m 0) e ∙ getD-beyond (take from old) _ from (i - from) (length-take-le from old inside)
-      ∙ getD-replicate (length old - from) (i - from) 0 0 (omega arith)))
-
-  pub clear-start : over old (cleared old from) from ≡ old
-  clear-start = rw (take-at (take from old) _ from (length-take-le from old inside), take-append-drop)
-
-  pub clear-end : (i : ℕ) → length old ≤ i → over old (cleared old from) i ≡ cleared old from
-  clear-end i h =
-      let l : length (cleared old from) ≤ i = omega (arith, length-cleared) in
-      rw (take-all i (cleared old from) l, drop-of-length-le old h) (append-nil (cleared old from))
-
--- what has moved, and zeros behind it
-pub move-end : (old : List ℕ) (n : ℕ) → n ≤ length old
-    → cleared (over old (drop n old) (length old - n)) (length old - n) ≡ drop n old ++ replicate n 0
-move-end old n h =
-    let kept = length old - n in
-    let l : length (drop n old) ≡ kept = length-drop n old in
-    let t : take kept (drop n old) ≡ drop n old = take-all kept (drop n old) (omega arith) in
-    let e : length (over old (drop n old) kept) - kept ≡ n = omega (arith, length-over old (drop n old) kept (omega arith) (omega arith)) in
-    rw (e, t, take-at (drop n old) (drop kept old) kept l)
+pub closing-end : (places : List ℕ) (n : ℕ) → n ≤ length places → closing places n (length places - n) ≡ drop n places ++ replicate n 0
+closing-end places n h =
+    let l : length (drop n places) ≡ length places - n = length-drop n places in
+    let e : length places - length (drop n places) ≡ n = omega arith in
+    rw (take-all (length places - n) (drop n places) (omega arith), e)
 
 -- no more are taken, or left out, than there are
 pub take-min : {A : Type 0} (n : ℕ) (l : List A) → take (min n (length l)) l ≡ take n l

@@ -30,8 +30,8 @@ use Rattle.queue.specs.Held.{placing, handing}
 use Rattle.queue.specs.declared.Placed.{Placed}
 use Rattle.queue.specs.declared.Handed as reads
 use Rattle.queue.proofs.Laws.{queue-in, count-is}
-use Rattle.rules.specs.Judged.{judgedAs}
-use Rattle.rules.specs.declared.Judged.the-variants.{Fit, Bad}
+use Rattle.judging.specs.Judged.{judgedAs}
+use Rattle.judging.specs.declared.Judged.the-variants.{Fit, Bad}
 use Rattle.transmitter.specs.Held as transmitter
 use Rattle.transmitter.specs.Held.{answeredAs}
 use Rattle.transmitter.specs.declared.Answered as sent

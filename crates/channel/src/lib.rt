@@ -7,12 +7,12 @@ ghost use Rattle.paper.specs.Transmitter as lines;
 ghost use Rattle.queue.specs.Held.{depth};
 ghost use Rattle.channel.specs.Held.{Sound, channelOf};
 ghost use Rattle.channel.specs.Promise.{Promise, atThreshold};
+use judging::Judged;
 use paper::Answer;
 use paper::Flags;
 use paper::Refusal;
 use paper::Settings;
 use queue::Queue;
-use rules::Judged;
 use transmitter::Transmitter;
 
 // "Each has settings, a receive queue of 12 items, a transmit queue of 12 bytes, and small flags."
@@ -138,7 +138,7 @@ impl Channel {
         requires { ⌜ Sound depth twelve self ⌝ }
         ensures { λ r. ⌜ Promise depth twelve self (calls.settings (now (bytes .entry))) r (now (bytes .entry)) ⌝ }
     {
-        let judged = rules::judge(bytes, Channel::MOST);
+        let judged = judging::judge(bytes, Channel::MOST);
         match judged {
             Judged::Bad(field) => self.refuse(Refusal::BadField(field)),
             Judged::Fit(settings) => {
@@ -190,7 +190,7 @@ impl Channel {
     }
 
     // The channel with another transmitter, and what the transmitter answers.
-    fn send(mut self, sent: transmitter::Answered) -> Answered
+    fn send(self, sent: transmitter::Answered) -> Answered
         ensures { λ r. ⌜ r ≡ record {
           answer = sent .answer;
           channel = record {
@@ -203,10 +203,17 @@ impl Channel {
     {
         let answer = sent.answer;
         let transmitter = sent.transmitter;
-        self.transmitter = transmitter;
+        let queue = self.queue;
+        let settings = self.settings;
+        let flags = self.flags;
         Answered {
             answer,
-            channel: self,
+            channel: Channel {
+                queue,
+                transmitter,
+                settings,
+                flags,
+            },
         }
     }
 

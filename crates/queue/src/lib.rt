@@ -130,12 +130,15 @@ impl Queue {
         requires { ⌜ (Sound depth depth self) × (n ≤ self .count) ⌝ }
         ensures { λ r. ⌜ r ≡ queueOf depth (model.removed n (queueIn self)) ⌝ }
     {
-        let mut kinds = self.kinds;
-        let mut bytes = self.bytes;
-        let mut flags = self.flags;
-        arrays::close_up(&mut kinds, n);
-        arrays::close_up(&mut bytes, n);
-        arrays::close_up(&mut flags, n);
+        let kinds_before = self.kinds;
+        let bytes_before = self.bytes;
+        let flags_before = self.flags;
+        let mut kinds = [0u8; Queue::DEPTH];
+        let mut bytes = [0u8; Queue::DEPTH];
+        let mut flags = [0u8; Queue::DEPTH];
+        arrays::close_up(&kinds_before, n, &mut kinds);
+        arrays::close_up(&bytes_before, n, &mut bytes);
+        arrays::close_up(&flags_before, n, &mut flags);
         Queue {
             kinds,
             bytes,

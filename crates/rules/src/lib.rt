@@ -1,12 +1,9 @@
-// 01, "One arrival", step by step, and the test of settings, all by value.
+// 01, "One arrival", step by step, by value.
 ghost use mathlib.Core.Path.{_≡_};
-ghost use mathlib.Core.Bool.{_||_};
-ghost use mathlib.Core.List.{[], _∷_};
-ghost use lib.Dec.{ltb};
-ghost use lib.ListN.{getD};
+ghost use mathlib.Core.Logic.{_≢_};
+ghost use mathlib.Core.Bool.{not, _&&_, _||_};
+ghost use lib.Dec.{eqb};
 ghost use Rattle.paper.specs.Arrival as steps;
-ghost use Rattle.paper.specs.Settings.{settingsOf, range, tests, crossed12, crossed15, badField};
-ghost use Rattle.rules.specs.Judged.{afterTest, afterTests, ownRanges, judgedAs};
 ghost use Rattle.rules.specs.Table.{Entry, comesOut};
 use paper::Flags;
 use paper::Item;
@@ -65,14 +62,22 @@ fn step1(s: Settings, f: Flags) -> Outcome
     giving(Ruling::Store(Item::Plain(0x00)), false, f.running)
 }
 
-// "2. Parity or framing error. Pass: go on as good. Discard: nothing changes. Null: store plain 00. Mark: store damaged b, unstripped. The
-// last two clear the literal mark, and match no special character."
+// "Pass: go on as good.": whether an arrival that is no break takes steps 3 to 7, as it is good, or damaged and passed.
+fn goes_on_as_good(s: Settings, kind: u8) -> bool
+    ensures { λ r. ⌜ r ≡ (eqb kind 0 || eqb (s .damaged) 1) ⌝ }
+{
+    if kind == 0 {
+        return true;
+    }
+    s.damaged == 1
+}
+
+// "2. Parity or framing error. ... Discard: nothing changes. Null: store plain 00. Mark: store damaged b, unstripped. The last two clear the
+// literal mark, and match no special character." What is passed has gone on as good.
 fn step2(s: Settings, f: Flags, b: u8) -> Outcome
+    requires { ⌜ s .damaged ≢ 1 ⌝ }
     ensures { λ r. ⌜ r ≡ steps.step2 s f b (steps.good s f b) ⌝ }
 {
-    if s.damaged == 1 {
-        return good(s, f, b);
-    }
     if s.damaged == 2 {
         return giving(
             Ruling::StoreNothing(Why::DamagedDiscarded),
@@ -116,17 +121,37 @@ fn step4(s: Settings, f: Flags, running: bool, b: u8) -> Outcome
     step5(s, running, b)
 }
 
+// "Literal-next on and b is that character"
+fn is_literal_next(s: Settings, b: u8) -> bool
+    ensures { λ r. ⌜ r ≡ (eqb (s .literal) 1 && eqb b (s .quote)) ⌝ }
+{
+    if s.literal == 1 {
+        return b == s.quote;
+    }
+    false
+}
+
 // "5. Literal-next on and b is that character: set the mark, store b, stop."
 fn step5(s: Settings, running: bool, b: u8) -> Outcome
     ensures { λ r. ⌜ r ≡ steps.step5 s running b (steps.step6 s b (steps.step7 s running b)) ⌝ }
 {
-    if s.literal == 1 {
-        if b == s.quote {
-            return giving(Ruling::Store(good_item(s, b)), true, running);
-        }
-        return step6(s, running, b);
+    if is_literal_next(s, b) {
+        return giving(Ruling::Store(good_item(s, b)), true, running);
     }
     step6(s, running, b)
+}
+
+// "Field 5 not 0 and b is XON or XOFF"
+fn is_flow_character(s: Settings, b: u8) -> bool
+    ensures { λ r. ⌜ r ≡ (not (eqb (s .flow) 0) && (eqb b (s .xon) || eqb b (s .xoff))) ⌝ }
+{
+    if s.flow == 0 {
+        return false;
+    }
+    if b == s.xon {
+        return true;
+    }
+    b == s.xoff
 }
 
 // "store b for value 1, store nothing for value 2"
@@ -143,14 +168,8 @@ fn flow_ruling(s: Settings, b: u8) -> Ruling
 fn step6(s: Settings, running: bool, b: u8) -> Outcome
     ensures { λ r. ⌜ r ≡ steps.step6 s b (steps.step7 s running b) ⌝ }
 {
-    if s.flow == 0 {
-        return step7(s, running, b);
-    }
-    if b == s.xon {
-        return giving(flow_ruling(s, b), false, true);
-    }
-    if b == s.xoff {
-        return giving(flow_ruling(s, b), false, false);
+    if is_flow_character(s, b) {
+        return giving(flow_ruling(s, b), false, b == s.xon);
     }
     step7(s, running, b)
 }
@@ -211,149 +230,8 @@ pub fn arrival(s: Settings, f: Flags, kind: u8, b: u8) -> Outcome
     if kind == 3 {
         return step1(s, f);
     }
-    if kind == 0 {
+    if goes_on_as_good(s, kind) {
         return good(s, f, b);
     }
     step2(s, f, b)
-}
-
-// Settings that are right, or "settings not 15 bytes (field 0) or the first bad field".
-pub enum Judged {
-    Fit(Settings),
-    Bad(u8),
-}
-
-// The byte at a place, and 0 beyond the end.
-fn byte_at(bytes: &[u8], at: usize) -> u8
-    ensures { λ r. ⌜ r ≡ getD (now (bytes .entry)) at 0 ⌝ }
-{
-    if at < bytes.len() {
-        return bytes[at];
-    }
-    0
-}
-
-// "Settings, 15 bytes", in field order.
-fn settings_of(bytes: &[u8]) -> Settings
-    ensures { λ r. ⌜ r ≡ settingsOf (now (bytes .entry)) ⌝ }
-{
-    Settings {
-        damaged: byte_at(bytes, 0),
-        breaks: byte_at(bytes, 1),
-        strip: byte_at(bytes, 2),
-        endings: byte_at(bytes, 3),
-        flow: byte_at(bytes, 4),
-        implied: byte_at(bytes, 5),
-        literal: byte_at(bytes, 6),
-        threshold: byte_at(bytes, 7),
-        hold: byte_at(bytes, 8),
-        expand: byte_at(bytes, 9),
-        xon: byte_at(bytes, 10),
-        xoff: byte_at(bytes, 11),
-        third: byte_at(bytes, 12),
-        fourth: byte_at(bytes, 13),
-        quote: byte_at(bytes, 14),
-    }
-}
-
-// The value is not one from lowest to highest.
-fn outside(lowest: u8, highest: u8, value: u8) -> bool
-    ensures { λ r. ⌜ r ≡ (ltb value lowest || ltb highest value) ⌝ }
-{
-    if value < lowest {
-        return true;
-    }
-    highest < value
-}
-
-// "with field 5 not 0, XON equal to XOFF"
-fn crossed_flow(s: Settings) -> bool
-    ensures { λ r. ⌜ r ≡ crossed12 s .bad ⌝ }
-{
-    if s.flow == 0 {
-        return false;
-    }
-    s.xon == s.xoff
-}
-
-// "with fields 5 and 7 both on, the literal-next character equal to XON or XOFF"
-fn crossed_literal(s: Settings) -> bool
-    ensures { λ r. ⌜ r ≡ crossed15 s .bad ⌝ }
-{
-    if s.flow == 0 {
-        return false;
-    }
-    if s.literal == 0 {
-        return false;
-    }
-    if s.quote == s.xon {
-        return true;
-    }
-    s.quote == s.xoff
-}
-
-// What is judged after one test more: "the first bad field" stays.
-fn tested(judged: Judged, field: u8, bad: bool) -> Judged
-    ensures { λ r. ⌜ r ≡ afterTest judged (record { field = field; bad = bad }) ⌝ }
-{
-    match judged {
-        Judged::Bad(first) => Judged::Bad(first),
-        Judged::Fit(s) => {
-            if bad {
-                return Judged::Bad(field);
-            }
-            Judged::Fit(s)
-        }
-    }
-}
-
-// The test of a field's own range.
-fn own_range(judged: Judged, field: u8, lowest: u8, highest: u8, value: u8) -> Judged
-    ensures { λ r. ⌜ r ≡ afterTest judged (range field lowest highest value) ⌝ }
-{
-    tested(judged, field, outside(lowest, highest, value))
-}
-
-// "Own ranges are tested first, in field order"
-fn own_ranges(judged: Judged, s: Settings, most: u8) -> Judged
-    ensures { λ r. ⌜ r ≡ afterTests judged (ownRanges most s) ⌝ }
-{
-    let judged = own_range(judged, 1, 1, 4, s.damaged);
-    let judged = own_range(judged, 2, 0, 1, s.breaks);
-    let judged = own_range(judged, 3, 0, 1, s.strip);
-    let judged = own_range(judged, 4, 0, 7, s.endings);
-    let judged = own_range(judged, 5, 0, 2, s.flow);
-    let judged = own_range(judged, 6, 0, 1, s.implied);
-    let judged = own_range(judged, 7, 0, 1, s.literal);
-    let judged = own_range(judged, 8, 1, most, s.threshold);
-    let judged = own_range(judged, 9, 0, 1, s.hold);
-    own_range(judged, 10, 0, 1, s.expand)
-}
-
-// "then these two in order"
-fn crossed(judged: Judged, s: Settings) -> Judged
-    ensures { λ r. ⌜ r ≡ afterTests judged (crossed12 s ∷ crossed15 s ∷ []) ⌝ }
-{
-    let flow = crossed_flow(s);
-    let literal = crossed_literal(s);
-    let judged = tested(judged, 12, flow);
-    tested(judged, 15, literal)
-}
-
-// "Own ranges are tested first, in field order, then these two in order."
-fn judge_fields(s: Settings, most: u8) -> Judged
-    ensures { λ r. ⌜ r ≡ afterTests (Judged.Fit s) (tests most s) ⌝ }
-{
-    let judged = own_ranges(Judged::Fit(s), s, most);
-    crossed(judged, s)
-}
-
-// "settings not 15 bytes (field 0) or the first bad field"; `most` is the most that a threshold may be.
-pub fn judge(bytes: &[u8], most: u8) -> Judged
-    ensures { λ r. ⌜ r ≡ judgedAs (now (bytes .entry)) (badField most (now (bytes .entry))) ⌝ }
-{
-    if bytes.len() == 15 {
-        return judge_fields(settings_of(bytes), most);
-    }
-    Judged::Bad(0)
 }

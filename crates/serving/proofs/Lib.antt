@@ -1,6 +1,3 @@
-mod Answers
-mod Frames
-mod Lines
 mod Loop
-mod Onward
 mod Program
+mod Whole

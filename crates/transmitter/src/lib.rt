@@ -51,7 +51,7 @@ impl Transmitter {
     }
 
     // "takes the first min(length, room) bytes; answers that number. Load of nothing takes 0."
-    pub fn load(mut self, bytes: &[u8]) -> Answered
+    pub fn load(self, bytes: &[u8]) -> Answered
         requires { ⌜ Sound transmitDepth self ⌝ }
         ensures { λ r. ⌜ r ≡ loads transmitDepth self (now (bytes .entry)) ⌝ }
     {
@@ -64,28 +64,39 @@ impl Transmitter {
             queue[count + i] = bytes[i];
             i += 1;
         }
-        self.bytes = queue;
-        self.count = count + taken;
+        let count = count + taken;
         Answered {
             answer: Answer::Took(taken),
-            transmitter: self,
+            transmitter: Transmitter {
+                count,
+                bytes: queue,
+                owed: self.owed,
+                waits: self.waits,
+                special: self.special,
+                cts: self.cts,
+            },
         }
     }
 
     // "A waiting special goes first, even when stopped or CTS is 0, even between CR and its NL. Else nothing goes if stopped, or if
     // field 9 is 1 and CTS is 0."
-    pub fn turn(mut self, s: Settings, f: Flags) -> Answered
+    pub fn turn(self, s: Settings, f: Flags) -> Answered
         requires { ⌜ Sound transmitDepth self ⌝ }
         ensures { λ r. ⌜ r ≡ turns transmitDepth s f self ⌝ }
     {
         let first = self.waits;
         if first {
-            let special = self.special;
-            self.waits = false;
-            self.special = 0;
+            let bytes = self.bytes;
             return Answered {
-                answer: Answer::Sent(special),
-                transmitter: self,
+                answer: Answer::Sent(self.special),
+                transmitter: Transmitter {
+                    count: self.count,
+                    bytes,
+                    owed: self.owed,
+                    waits: false,
+                    special: 0,
+                    cts: self.cts,
+                },
             };
         }
         if self.is_held(s, f) {
@@ -111,15 +122,22 @@ impl Transmitter {
     }
 
     // "Else an owed NL; else the head of the queue; else nothing." "An owed NL is sent even if field 10 was since turned off."
-    fn send_next(mut self, s: Settings) -> Answered
+    fn send_next(self, s: Settings) -> Answered
         requires { ⌜ Sound transmitDepth self ⌝ }
         ensures { λ r. ⌜ r ≡ sendsNext transmitDepth s self (self .owed) ⌝ }
     {
         if self.owed {
-            self.owed = false;
+            let bytes = self.bytes;
             return Answered {
                 answer: Answer::Sent(NL),
-                transmitter: self,
+                transmitter: Transmitter {
+                    count: self.count,
+                    bytes,
+                    owed: false,
+                    waits: self.waits,
+                    special: self.special,
+                    cts: self.cts,
+                },
             };
         }
         if self.count == 0 {
@@ -132,31 +150,38 @@ impl Transmitter {
     }
 
     // "With field 10, a queued NL goes out as CR, leaves the queue and owes an NL."
-    fn send_head(mut self, s: Settings) -> Answered
+    fn send_head(self, s: Settings) -> Answered
         requires { ⌜ (Sound transmitDepth self) × (0 < self .count) ⌝ }
         ensures { λ r. ⌜ r ≡ sendsNext transmitDepth s self false ⌝ }
     {
         let head = self.bytes[0];
-        let mut bytes = self.bytes;
-        arrays::close_up(&mut bytes, 1);
-        self.bytes = bytes;
-        self.count = self.count - 1;
-        let owes = owes_nl(s, head);
-        self.owed = owes;
-        if owes {
+        let bytes_before = self.bytes;
+        let mut bytes = [0u8; Transmitter::DEPTH];
+        arrays::close_up(&bytes_before, 1, &mut bytes);
+        let count = self.count - 1;
+        let owed = owes_nl(s, head);
+        let transmitter = Transmitter {
+            count,
+            bytes,
+            owed,
+            waits: self.waits,
+            special: self.special,
+            cts: self.cts,
+        };
+        if owed {
             return Answered {
                 answer: Answer::Sent(CR),
-                transmitter: self,
+                transmitter,
             };
         }
         Answered {
             answer: Answer::Sent(head),
-            transmitter: self,
+            transmitter,
         }
     }
 
     // Refusal 10, "CTS neither 0 nor 1"
-    pub fn set_cts(mut self, value: u8) -> Answered
+    pub fn set_cts(self, value: u8) -> Answered
         requires { ⌜ Sound transmitDepth self ⌝ }
         ensures { λ r. ⌜ r ≡ setsCts transmitDepth self value ⌝ }
     {
@@ -166,15 +191,22 @@ impl Transmitter {
                 transmitter: self,
             };
         }
-        self.cts = value == 1;
+        let bytes = self.bytes;
         Answered {
             answer: Answer::Done,
-            transmitter: self,
+            transmitter: Transmitter {
+                count: self.count,
+                bytes,
+                owed: self.owed,
+                waits: self.waits,
+                special: self.special,
+                cts: value == 1,
+            },
         }
     }
 
     // "the present special character s waits for the next turn"; refusal 6, "special not 1 to 4", before 7, "a special already waits"
-    pub fn ask_special(mut self, s: Settings, number: u8) -> Answered
+    pub fn ask_special(self, s: Settings, number: u8) -> Answered
         requires { ⌜ Sound transmitDepth self ⌝ }
         ensures { λ r. ⌜ r ≡ asksSpecial transmitDepth s self number ⌝ }
     {
@@ -196,11 +228,17 @@ impl Transmitter {
                 transmitter: self,
             };
         }
-        self.waits = true;
-        self.special = special_character(s, number);
+        let bytes = self.bytes;
         Answered {
             answer: Answer::Done,
-            transmitter: self,
+            transmitter: Transmitter {
+                count: self.count,
+                bytes,
+                owed: self.owed,
+                waits: true,
+                special: special_character(s, number),
+                cts: self.cts,
+            },
         }
     }
 }

@@ -1,7 +1,7 @@
 use native.Mathlib.Omega.{arith}
 use lib.ListN.{length-take}
 use borrow.Author.Needs.{needs}
-use Rattle.answers.proofs.Laws.{wrote-then}
+use Rattle.answers.proofs.Laws.{wrote-then, read-short}
 use Rattle.answers.proofs.put_handed.Statement.{statement}
 use Rattle.answers.proofs.put_handed.Tie as tie
 
@@ -23,14 +23,21 @@ slice-aggregate-put-bytes c = simp length-take (omega arith)
 put-bytes-requires : tie.Need-put-bytes-requires
 put-bytes-requires c κs = simp length-take (omega arith)
 
+end-line-requires : tie.Need-end-line-requires
+end-line-requires c κs =
+    let a = c .before .before .before .before .before .before .before .before .before .before .before .before .before .before .before .before in
+    omega (arith, read-short (a .args .bytes) (a .args .lent .now) (a .pre .1 .short))
+
 same-length : tie.Need-same-length
 same-length c = search needs
 
 returns : tie.Need-returns
 returns c =
-    let second = c .before .before .before .before .before .before .before in
+    let third = c .before .before .before .before .before .before in
+    let second = third .before .before .before .before .before in
     let first = second .before .before .before .before in
-    wrote-then (wrote-then (first .put-two .ensures) (second .put-byte .ensures)) (c .before .before .put-bytes .ensures)
+    let numbers = wrote-then (wrote-then (first .put-two .ensures) (second .put-byte .ensures)) (third .put-bytes .ensures) in
+    wrote-then numbers (c .before .before .end-line .ensures)
 
 pub put-handed-spec : {M : Type 1} → statement M
 put-handed-spec =
@@ -42,5 +49,6 @@ put-handed-spec =
     put-byte-requires
     slice-aggregate-put-bytes
     put-bytes-requires
+    end-line-requires
     same-length
     returns)

@@ -27,15 +27,19 @@ cast-put-two-4 c = search needs
 put-two-requires-3 : tie.Need-put-two-requires-3
 put-two-requires-3 c κs = search needs
 
+end-line-requires : tie.Need-end-line-requires
+end-line-requires c κs = search needs
+
 same-length : tie.Need-same-length
 same-length c = search needs
 
 returns : tie.Need-returns
 returns c =
-    let second = c .before .before .before .before .before .before in
+    let third = c .before .before .before .before .before .before in
+    let second = third .before .before .before .before in
     let first = second .before .before .before .before .before in
-    rw (← second .before .stopped-number .ensures)
-    (wrote-then (wrote-then (first .put-two .ensures) (second .put-two2 .ensures)) (c .before .before .put-two3 .ensures))
+    let numbers = wrote-then (wrote-then (first .put-two .ensures) (second .put-two2 .ensures)) (third .put-two3 .ensures) in
+    rw (← second .before .stopped-number .ensures) (wrote-then numbers (c .before .before .end-line .ensures))
 
 pub put-shown-spec : {M : Type 1} → statement M
 put-shown-spec =
@@ -49,5 +53,6 @@ put-shown-spec =
     cast-put-two-3
     cast-put-two-4
     put-two-requires-3
+    end-line-requires
     same-length
     returns)

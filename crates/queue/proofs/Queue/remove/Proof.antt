@@ -9,39 +9,51 @@ use Rattle.queue.proofs.Queue.remove.Tie as tie
 slice-aggregate-close-up : tie.Need-slice-aggregate-close-up
 slice-aggregate-close-up c = search needs
 
-close-up-requires : tie.Need-close-up-requires
-close-up-requires c κs =
-    let a = c .before .before .before .before in
-    let s = a .pre .0 in
-    omega (arith, kinds-long depth depth (a .args .self) s (lit≤ tt), count-is depth depth (a .args .self) s, s .waiting)
-
 slice-aggregate-close-up-2 : tie.Need-slice-aggregate-close-up-2
 slice-aggregate-close-up-2 c = search needs
 
-close-up-requires-2 : tie.Need-close-up-requires-2
-close-up-requires-2 c κs =
-    let a = c .before .before .before .before .before .before .before in
+close-up-requires : tie.Need-close-up-requires
+close-up-requires c κs =
+    let a = c .before .before .before .before .before in
     let s = a .pre .0 in
-    omega (arith, bytes-long depth depth (a .args .self) s (lit≤ tt), count-is depth depth (a .args .self) s, s .waiting)
+    let e = kinds-long depth depth (a .args .self) s (lit≤ tt) in
+    (omega (arith, count-is depth depth (a .args .self) s, s .waiting), rw e)
 
 slice-aggregate-close-up-3 : tie.Need-slice-aggregate-close-up-3
 slice-aggregate-close-up-3 c = search needs
 
+slice-aggregate-close-up-4 : tie.Need-slice-aggregate-close-up-4
+slice-aggregate-close-up-4 c = search needs
+
+close-up-requires-2 : tie.Need-close-up-requires-2
+close-up-requires-2 c κs =
+    let a = c .before .before .before .before .before .before .before .before .before in
+    let s = a .pre .0 in
+    let e = bytes-long depth depth (a .args .self) s (lit≤ tt) in
+    (omega (arith, count-is depth depth (a .args .self) s, s .waiting), rw e)
+
+slice-aggregate-close-up-5 : tie.Need-slice-aggregate-close-up-5
+slice-aggregate-close-up-5 c = search needs
+
+slice-aggregate-close-up-6 : tie.Need-slice-aggregate-close-up-6
+slice-aggregate-close-up-6 c = search needs
+
 close-up-requires-3 : tie.Need-close-up-requires-3
 close-up-requires-3 c κs =
-    let a = c .before .before .before .before .before .before .before .before .before .before in
+    let a = c .before .before .before .before .before .before .before .before .before .before .before .before .before in
     let s = a .pre .0 in
-    omega (arith, flags-long depth depth (a .args .self) s (lit≤ tt), count-is depth depth (a .args .self) s, s .waiting)
+    let e = flags-long depth depth (a .args .self) s (lit≤ tt) in
+    (omega (arith, count-is depth depth (a .args .self) s, s .waiting), rw e)
 
-sub-t16 : tie.Need-sub-t16
-sub-t16 c = search needs
+sub-t25 : tie.Need-sub-t25
+sub-t25 c = search needs
 
 returns : tie.Need-returns
 returns c =
-    let a = c .before .before .before .before .before .before .before .before .before .before .before .before .before in
+    let a = c .before .before .before .before .before .before .before .before .before .before .before .before .before .before .before .before in
     rw (
-      c .before .before .before .before .before .before .before .before .close-up .ensures,
-      c .before .before .before .before .before .close-up2 .ensures,
+      c .before .before .before .before .before .before .before .before .before .before .close-up .ensures,
+      c .before .before .before .before .before .before .close-up2 .ensures,
       c .before .before .close-up3 .ensures,
     )
     (close-sound depth depth (a .args .n) (a .args .self) (a .pre .0) (a .pre .1) (lit≤ tt))
@@ -51,10 +63,13 @@ remove-spec =
     tie.close
     (tie.spec
     slice-aggregate-close-up
-    close-up-requires
     slice-aggregate-close-up-2
-    close-up-requires-2
+    close-up-requires
     slice-aggregate-close-up-3
+    slice-aggregate-close-up-4
+    close-up-requires-2
+    slice-aggregate-close-up-5
+    slice-aggregate-close-up-6
     close-up-requires-3
-    sub-t16
+    sub-t25
     returns)

@@ -34,12 +34,12 @@ special-character-requires c κs = search needs
 
 returns-4 : tie.Need-returns-4
 returns-4 c =
-    let a = c .before .before .before .before in
+    let a = c .before .before .before .before .before in
     let t = a .args .self in
     let p = parts transmitDepth t (a .pre) in
-    let low = le-ltb (a .args .number) 1 (c .before .before .before .if1 .left) in
-    let high = le-ltb 4 (a .args .number) (c .before .before .if2 .left) in
-    rw (asks-by transmitDepth (a .args .s) t (a .args .number) none low high (no-special t (c .before .if3 .left)))
+    let low = le-ltb (a .args .number) 1 (c .before .before .before .before .if1 .left) in
+    let high = le-ltb 4 (a .args .number) (c .before .before .before .if2 .left) in
+    rw (asks-by transmitDepth (a .args .s) t (a .args .number) none low high (no-special t (c .before .before .if3 .left)))
     (answers transmitDepth _ _
     (record { bytes = p .bytes; count = p .count; owed = p .owed; waits = refl; special = c .special-character .ensures; cts = p .cts }))
 

@@ -47,8 +47,8 @@ loop-again c =
     let l = c .before .before .loop in
     (omega arith, rw (l .inv .1) (load-step transmitDepth (a .args .self) (a .pre) (a .args .bytes .now) (l .i) (omega arith) (omega arith)))
 
-add-self : tie.Need-add-self Inv-loop μ-loop
-add-self c = search needs
+add-count : tie.Need-add-count Inv-loop μ-loop
+add-count c = search needs
 
 returns : tie.Need-returns Inv-loop μ-loop
 unfolding transmitDepth
@@ -75,5 +75,5 @@ load-spec =
     add-i
     loop-less
     loop-again
-    add-self
+    add-count
     returns)

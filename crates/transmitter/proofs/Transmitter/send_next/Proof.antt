@@ -10,10 +10,10 @@ use Rattle.transmitter.proofs.Transmitter.send_next.Tie as tie
 returns : tie.Need-returns
 unfolding sendsNext
 returns c =
-    let a = c .before in
+    let a = c .before .before in
     let p = parts transmitDepth (a .args .self) (a .pre) in
     answers transmitDepth _ [] (record { bytes = p .bytes; count = p .count; owed = refl; waits = p .waits; special = p .special; cts = p .cts })
-    ∙ ap (sendsNext transmitDepth (a .args .s) (a .args .self)) (sym (c .if1 .taken))
+    ∙ ap (sendsNext transmitDepth (a .args .s) (a .args .self)) (sym (c .before .if1 .taken))
 
 returns-2 : tie.Need-returns-2
 returns-2 c =

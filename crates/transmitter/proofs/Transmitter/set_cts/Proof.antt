@@ -13,9 +13,9 @@ returns c = let a = c .before in rw (lt-ltb 1 (a .args .value) (c .if1 .taken)) 
 returns-2 : tie.Need-returns-2
 unfolding setsCts
 returns-2 c =
-    let a = c .before in
+    let a = c .before .before in
     let p = parts transmitDepth (a .args .self) (a .pre) in
-    rw (le-ltb 1 (a .args .value) (c .if1 .left))
+    rw (le-ltb 1 (a .args .value) (c .before .if1 .left))
     (answers transmitDepth _ _
     (record { bytes = p .bytes; count = p .count; owed = p .owed; waits = p .waits; special = p .special; cts = refl }))
 

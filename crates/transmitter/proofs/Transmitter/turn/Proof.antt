@@ -9,10 +9,10 @@ use Rattle.transmitter.proofs.Transmitter.turn.Tie as tie
 
 returns : tie.Need-returns
 returns c =
-    let a = c .before in
+    let a = c .before .before in
     let t = a .args .self in
     let p = parts transmitDepth t (a .pre) in
-    rw (turns-by transmitDepth (a .args .s) t (a .args .f) (some (t .special)) (special-waits t (c .if1 .taken)))
+    rw (turns-by transmitDepth (a .args .s) t (a .args .f) (some (t .special)) (special-waits t (c .before .if1 .taken)))
     (answers transmitDepth _ _ (record { bytes = p .bytes; count = p .count; owed = p .owed; waits = refl; special = refl; cts = p .cts }))
 
 is-held-requires : tie.Need-is-held-requires

@@ -1,0 +1,4 @@
+mod Answers
+pub mod Frames
+pub mod Lines
+mod Onward

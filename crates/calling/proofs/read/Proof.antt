@@ -1,0 +1,40 @@
+use Rattle.calling.proofs.Answers.{fits, said}
+use borrow.Author.Needs.{needs}
+use Rattle.calling.proofs.read.Statement.{statement}
+use Rattle.calling.proofs.read.Tie as tie
+
+wide-requires : tie.Need-wide-requires
+wide-requires c κs = search needs
+
+slice-aggregate-read : tie.Need-slice-aggregate-read
+slice-aggregate-read c = search needs
+
+read-requires : tie.Need-read-requires
+read-requires c κs = search needs
+
+slice-aggregate-put-read : tie.Need-slice-aggregate-put-read
+slice-aggregate-put-read c = search needs
+
+put-read-requires : tie.Need-put-read-requires
+put-read-requires c κs = search (needs, fits)
+
+same-length : tie.Need-same-length
+same-length c = search needs
+
+returns : tie.Need-returns
+returns c =
+    let p = rw (c .before .before .before .before .before .before .before .before .before .before .wide .ensures) at
+    (c .before .before .before .before .before .before .before .before .read .ensures) in
+    said _ _ _ _ p _ _ _ _ (c .before .before .before .put-read .ensures)
+
+pub read-spec : {M : Type 1} → statement M
+read-spec =
+    tie.close
+    (tie.spec
+    wide-requires
+    slice-aggregate-read
+    read-requires
+    slice-aggregate-put-read
+    put-read-requires
+    same-length
+    returns)

@@ -1,0 +1,261 @@
+// From a line of the input to its call, and from the call to its answer line.
+ghost use mathlib.Core.Option.{Option, some};
+ghost use mathlib.Core.Logic.{_≢_};
+ghost use mathlib.Core.Path.{_≡_};
+ghost use Prim.Native.Nat.{_+_, _<_, _≤_};
+ghost use lib.ListN.{length, replicate};
+ghost use Rattle.paper.specs.Settings.{twelve};
+ghost use Rattle.paper.specs.Transmitter as lines;
+ghost use Rattle.paper.specs.Channel as calls;
+ghost use Rattle.paper.specs.Card.{Call, pick};
+ghost use Rattle.paper.specs.Frames.{callOf};
+ghost use Rattle.queue.specs.Held.{depth};
+ghost use Rattle.channel.specs.Held as channel;
+ghost use Rattle.card.specs.Held.{Sound};
+ghost use Rattle.hexadecimal.specs.Line.{digitTable, Fits};
+ghost use Rattle.calling.specs.Asked.{listed, addressOf, bytesIn};
+ghost use Rattle.calling.specs.Said.{Says, Answers};
+ghost use Rattle.calling.specs.Found.{Leads};
+use card::Card;
+use channel::Channel;
+use hexadecimal::Line;
+use paper::Refusal;
+
+// How many bytes a frame has, by its first byte; 03 and 07 may have more.
+const LONG: [u8; 11] = [0, 4, 3, 2, 2, 3, 3, 2, 1, 2, 2];
+
+// "an unknown first byte, or a length not listed below": by a table, so that frames of all kinds take one way here.
+fn is_listed(first: u8, long: usize) -> bool
+    ensures { λ r. ⌜ r ≡ listed first long ⌝ }
+{
+    if first == 0 {
+        return false;
+    }
+    if 10 < first {
+        return false;
+    }
+    let least = wide(LONG[first as usize]);
+    if long == least {
+        return true;
+    }
+    if long < least {
+        return false;
+    }
+    if first == 0x03 {
+        return true;
+    }
+    first == 0x07
+}
+
+// Where a frame's call goes: the number of a channel, or one of these.
+const ABOVE_3: u8 = 4;
+
+pub const PICK: u8 = 5;
+
+const NO_CALL: u8 = 6;
+
+fn address(frame: &[u8]) -> u8
+    ensures { λ r. ⌜ r ≡ addressOf (callOf twelve (now (frame .entry))) ⌝ }
+{
+    if frame.len() == 0 {
+        return NO_CALL;
+    }
+    let first = frame[0];
+    if !is_listed(first, frame.len()) {
+        return NO_CALL;
+    }
+    if first == 0x08 {
+        return PICK;
+    }
+    let channel = frame[1];
+    if 3 < channel {
+        return ABOVE_3;
+    }
+    channel
+}
+
+// The place behind a line or at the piece's end, and the line there; the bytes of the line's frame, and where its call goes.
+pub struct Next {
+    pub at: usize,
+    pub line: Line,
+    pub long: usize,
+    pub who: u8,
+}
+
+// The line has no end in this piece.
+pub const NO_LINE: u8 = 7;
+
+// How many bytes a line's frame has: none where there is "an odd count of digits", nor where it is no frame, which counts 69.
+fn bytes_in(line: Line) -> usize
+    ensures { λ r. ⌜ r ≡ bytesIn line ⌝ }
+{
+    if line.digits % 2 == 1 {
+        return 0;
+    }
+    line.digits / 2
+}
+
+// Reads on to the end of a line, or of the piece.
+pub fn next_line(digits: &[u8], piece: &[u8], from: usize, held: Line, frame: &mut [u8]) -> Next
+    requires { ⌜ now digits ≡ digitTable ⌝ }
+    requires { ⌜ (from < length (now piece)) × Fits held (now frame) ⌝ }
+    ensures { λ r. ⌜ Leads (now (piece .entry)) from held (now (frame .entry)) r (now (frame .exit)) ⌝ }
+{
+    let cut = hexadecimal::gather(digits, piece, from, held, frame);
+    let line = cut.line;
+    if cut.ended {
+        let long = bytes_in(line);
+        let who = address(&frame[..long]);
+        return Next {
+            at: cut.at,
+            line: Line { digits: 0, last: 0 },
+            long,
+            who,
+        };
+    }
+    Next {
+        at: cut.at,
+        line,
+        long: 0,
+        who: NO_LINE,
+    }
+}
+
+// THE CALLS, one for each frame. Each writes its answer's line from the place `put` on, and `put` is then the place behind it.
+
+fn wide(n: u8) -> usize
+    ensures { λ r. ⌜ r ≡ n ⌝ }
+{
+    n as usize
+}
+
+// "01 channel kind byte"
+pub fn arrive(c: Channel, kind: u8, byte: u8, out: &mut [u8], put: &mut usize) -> Channel
+    requires { ⌜ channel.Sound depth twelve c × (now put + 79 ≤ length (now out)) ⌝ }
+    ensures { λ r. ⌜ Says c (calls.arrive kind byte) (now (out .entry)) (now (put .entry)) r (now (out .exit)) (now (put .exit)) ⌝ }
+{
+    let given = c.arrive(kind, byte);
+    let answer = given.answer;
+    *put = answers::put_arrival(out, *put, answer);
+    given.channel
+}
+
+// "02 channel n (lent 36 bytes, place 0)"
+pub fn read(c: Channel, n: u8, out: &mut [u8], put: &mut usize) -> Channel
+    requires { ⌜ channel.Sound depth twelve c × (now put + 79 ≤ length (now out)) ⌝ }
+    ensures { λ r. ⌜ Says c (calls.read n 0 (replicate 36 0)) (now (out .entry)) (now (put .entry)) r (now (out .exit)) (now (put .exit)) ⌝ }
+{
+    let mut lent = [0u8; 36];
+    let given = c.read(wide(n), &mut lent, 0);
+    let answer = given.answer;
+    *put = answers::put_read(out, *put, answer, &lent);
+    given.channel
+}
+
+// "03 channel and 0 to 32 bytes"
+pub fn load(c: Channel, bytes: &[u8], out: &mut [u8], put: &mut usize) -> Channel
+    requires { ⌜ channel.Sound depth twelve c × (now put + 79 ≤ length (now out)) ⌝ }
+    ensures { λ r. ⌜ Says c (calls.line (lines.load (now (bytes .entry)))) (now (out .entry)) (now (put .entry)) r
+        (now (out .exit)) (now (put .exit)) ⌝ }
+{
+    let given = c.load(bytes);
+    let answer = given.answer;
+    *put = answers::put_load(out, *put, answer, bytes);
+    given.channel
+}
+
+// "04 channel (turn)"
+pub fn turn(c: Channel, out: &mut [u8], put: &mut usize) -> Channel
+    requires { ⌜ channel.Sound depth twelve c × (now put + 79 ≤ length (now out)) ⌝ }
+    ensures { λ r. ⌜ Says c (calls.line lines.turn) (now (out .entry)) (now (put .entry)) r (now (out .exit)) (now (put .exit)) ⌝ }
+{
+    let given = c.turn();
+    let answer = given.answer;
+    *put = answers::put_turn(out, *put, answer);
+    given.channel
+}
+
+// "05 channel CTS"
+pub fn set_cts(c: Channel, value: u8, out: &mut [u8], put: &mut usize) -> Channel
+    requires { ⌜ channel.Sound depth twelve c × (now put + 79 ≤ length (now out)) ⌝ }
+    ensures { λ r. ⌜ Says c (calls.line (lines.cts value)) (now (out .entry)) (now (put .entry)) r (now (out .exit)) (now (put .exit)) ⌝ }
+{
+    let given = c.set_cts(value);
+    let answer = given.answer;
+    *put = answers::put_change(out, *put, answer, b"");
+    given.channel
+}
+
+// "06 channel special"
+pub fn ask_special(c: Channel, number: u8, out: &mut [u8], put: &mut usize) -> Channel
+    requires { ⌜ channel.Sound depth twelve c × (now put + 79 ≤ length (now out)) ⌝ }
+    ensures { λ r. ⌜ Says c (calls.line (lines.special number)) (now (out .entry)) (now (put .entry)) r (now (out .exit)) (now (put .exit)) ⌝ }
+{
+    let given = c.ask_special(number);
+    let answer = given.answer;
+    *put = answers::put_change(out, *put, answer, b"");
+    given.channel
+}
+
+// "07 channel and 0 to 32 bytes of settings"
+pub fn configure(c: Channel, bytes: &[u8], out: &mut [u8], put: &mut usize) -> Channel
+    requires { ⌜ channel.Sound depth twelve c × (now put + 79 ≤ length (now out)) ⌝ }
+    ensures { λ r. ⌜ Says c (calls.settings (now (bytes .entry))) (now (out .entry)) (now (put .entry)) r (now (out .exit)) (now (put .exit)) ⌝ }
+{
+    let given = c.take_settings(bytes);
+    let answer = given.answer;
+    *put = answers::put_change(out, *put, answer, bytes);
+    given.channel
+}
+
+// "09 channel (reset)"
+pub fn reset(c: Channel, out: &mut [u8], put: &mut usize) -> Channel
+    requires { ⌜ channel.Sound depth twelve c × (now put + 79 ≤ length (now out)) ⌝ }
+    ensures { λ r. ⌜ Says c calls.reset (now (out .entry)) (now (put .entry)) r (now (out .exit)) (now (put .exit)) ⌝ }
+{
+    let given = c.reset();
+    let answer = given.answer;
+    *put = answers::put_change(out, *put, answer, b"");
+    given.channel
+}
+
+// "0A channel (state)"
+pub fn show(c: Channel, out: &mut [u8], put: &mut usize)
+    requires { ⌜ channel.Sound depth twelve c × (now put + 79 ≤ length (now out)) ⌝ }
+    ensures { λ r. ⌜ Says c calls.state (now (out .entry)) (now (put .entry)) c (now (out .exit)) (now (put .exit)) ⌝ }
+{
+    let answer = c.state();
+    *put = answers::put_state(out, *put, answer);
+}
+
+// "08 (pick)": answers "the channel picked, FF for none". The card's place after it.
+pub fn name_next(card: Card, out: &mut [u8], put: &mut usize) -> u8
+    requires { ⌜ Sound depth twelve card × (now put + 79 ≤ length (now out)) ⌝ }
+    ensures { λ r. ⌜ Answers card (some pick) (now (out .entry)) (now (put .entry)) r (now (out .exit)) (now (put .exit)) ⌝ }
+{
+    let zero = card.channels[0];
+    let one = card.channels[1];
+    let two = card.channels[2];
+    let three = card.channels[3];
+    let ready = [zero.ready(), one.ready(), two.ready(), three.ready()];
+    let found = card::look(card.place, ready);
+    if found < 4 {
+        *put = answers::put_picked(out, *put, found);
+        return found;
+    }
+    *put = answers::put_none_ready(out, *put);
+    card.place
+}
+
+// A frame for a channel above 3, or no frame that there is: the card stays as it is.
+pub fn refuse(who: u8, out: &mut [u8], put: &mut usize)
+    requires { ⌜ (now put + 79 ≤ length (now out)) × ((3 < who) × (who ≢ 5)) ⌝ }
+    ensures { λ r. ⌜ ((C : Card) (asked : Option Call) → Sound depth twelve C → who ≡ addressOf asked
+        → Answers C asked (now (out .entry)) (now (put .entry)) (C .place) (now (out .exit)) (now (put .exit))) ⌝ }
+{
+    if who == ABOVE_3 {
+        *put = answers::put_refused(out, *put, Refusal::BadChannel);
+        return;
+    }
+    *put = answers::put_refused(out, *put, Refusal::BadLine);
+}
