@@ -1,36 +1,15 @@
 """Makes what the race needs: the proved program, the plain C program built by the same compiler, and the lines."""
 import os
-import platform
 import subprocess
 import sys
 
 HERE = os.path.dirname(os.path.realpath(__file__))
-ROOT = os.path.dirname(os.path.dirname(HERE))
+sys.path.insert(0, os.path.dirname(HERE))
+from kit import ROOT, kit, runner, told         # noqa: E402,F401
+
 WORK = os.path.join(ROOT, 'target', 'bench')
 TARGET = 'x86_64-unknown-linux-gnu'         # the proved program is for x86-64 on every machine
 MIXES = ('even', 'busy')
-
-
-def told(*command):
-    """What a command writes; where it fails, what it said, and the end."""
-    ran = subprocess.run(command, stdin=subprocess.DEVNULL, capture_output=True, check=False, cwd=ROOT)
-    if ran.returncode != 0:
-        sys.exit(f'{command[0]} failed:\n{ran.stdout.decode()}{ran.stderr.decode()}')
-    return ran.stdout.decode().strip()
-
-
-def kit():
-    """The kit's folder for this machine: rt doc answers KIT/docs/START-HERE.md."""
-    home = os.path.dirname(os.path.dirname(told('rt', 'doc')))
-    return os.path.join(home, 'on', platform.machine())
-
-
-def runner():
-    """What stands before a program's name: the kit's loader, and before it the emulator where there is one."""
-    tools = os.path.join(kit(), 'toolchain')
-    emulator = os.path.join(tools, 'bin', 'qemu-x86_64')
-    loader = os.path.join(tools, 'lib', 'ld-linux-x86-64.so.2')
-    return ([emulator] if os.access(emulator, os.X_OK) else []) + [loader, '--library-path', os.path.join(tools, 'lib')]
 
 
 def proved():

@@ -36,7 +36,7 @@ fn put_two(out: &mut [u8], at: usize, first: u8, second: u8) -> usize
 }
 
 // "Refusal numbers"
-fn refusal_number(refusal: Refusal) -> u8
+pub fn refusal_number(refusal: Refusal) -> u8
     ensures { λ r. ⌜ r ≡ refusalNumber refusal ⌝ }
 {
     match refusal {
@@ -77,7 +77,7 @@ pub fn put_refused(out: &mut [u8], at: usize, refusal: Refusal) -> usize
 }
 
 // "0 stored, 1 nothing to store, 2 lost"
-fn fate_number(fate: Fate) -> u8
+pub fn fate_number(fate: Fate) -> u8
     ensures { λ r. ⌜ r ≡ fateNumber fate ⌝ }
 {
     match fate {

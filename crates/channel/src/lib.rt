@@ -16,6 +16,7 @@ use queue::Queue;
 use transmitter::Transmitter;
 
 // "Each has settings, a receive queue of 12 items, a transmit queue of 12 bytes, and small flags."
+#[repr(C)]
 pub struct Channel {
     pub queue: Queue,
     pub transmitter: Transmitter,

@@ -1,21 +1,101 @@
-// For the polling loop: it "lends one channel's record and finds it altered where it stands".
-ghost use mathlib.Core.List.{[]};
+// For C: the calls of a polling loop, which "lends one channel's record and finds it altered where it stands", and the reader of a marked stream.
+// include/papergrotto.h declares them.
+ghost use mathlib.Core.List.{[], _∷_};
 ghost use mathlib.Core.Path.{_≡_};
+ghost use lib.ListN.{length};
 ghost use Rattle.paper.specs.Settings.{twelve};
+ghost use Rattle.paper.specs.Numbers.{refusalNumbers};
 ghost use Rattle.paper.specs.Channel as calls;
 ghost use Rattle.paper.specs.Transmitter as lines;
+ghost use Rattle.paper.specs.Stream as paper;
 ghost use Rattle.queue.specs.Held.{depth};
-ghost use Rattle.channel.specs.Held.{Sound};
-ghost use Rattle.channel.specs.Promise.{Promise};
+ghost use Rattle.channel.specs.Held.{Sound, channelOf};
+ghost use Rattle.channel.specs.Promise.{atThreshold};
+ghost use Rattle.polling.specs.Told.{told, readingTold, laid};
+ghost use Rattle.polling.specs.Promise.{Promise};
 use channel::Answered;
 use channel::Channel;
 use paper::Answer;
+use paper::Reading;
+use paper::Refusal;
 
-// What a call answered.
-fn answer_of(answered: Answered) -> Answer
-    ensures { λ r. ⌜ r ≡ answered .answer ⌝ }
+// What a call tells: 0 or the refusal's number, and the values in the paper's order, with zeros behind them.
+#[repr(C)]
+pub struct Told {
+    pub refusal: usize,
+    pub values: [usize; 4],
+}
+
+// "5 is followed by its field", 8 by "the place of the offending FF".
+fn tell_refusal(refusal: Refusal) -> Told
+    ensures { λ r. ⌜ r ≡ laid (refusalNumbers refusal) ⌝ }
 {
-    answered.answer
+    let number = answers::refusal_number(refusal) as usize;
+    match refusal {
+        Refusal::BadField(field) => Told {
+            refusal: number,
+            values: [field as usize, 0, 0, 0],
+        },
+        Refusal::BrokenStream(place) => Told {
+            refusal: number,
+            values: [place, 0, 0, 0],
+        },
+        _ => Told {
+            refusal: number,
+            values: [0, 0, 0, 0],
+        },
+    }
+}
+
+// A served call: 0, and its values.
+fn served(first: usize, second: usize, third: usize, fourth: usize) -> Told
+    ensures { λ r. ⌜ r ≡ record { refusal = 0; values = first ∷ second ∷ third ∷ fourth ∷ [] } ⌝ }
+{
+    Told {
+        refusal: 0,
+        values: [first, second, third, fourth],
+    }
+}
+
+// "fate; or characters, flagged, bytes; or taken; ..."
+fn tell(answer: Answer) -> Told
+    ensures { λ r. ⌜ r ≡ told answer ⌝ }
+{
+    match answer {
+        Answer::Refused(refusal) => tell_refusal(refusal),
+        Answer::Fated(fate) => served(answers::fate_number(fate) as usize, 0, 0, 0),
+        Answer::Handed(characters, flagged, bytes) => served(characters, flagged, bytes, 0),
+        Answer::Took(taken) => served(taken, 0, 0, 0),
+        Answer::Silent => served(0, 0, 0, 0),
+        Answer::Sent(byte) => served(1, byte as usize, 0, 0),
+        Answer::Done => served(0, 0, 0, 0),
+        Answer::Shown(waiting, sending, stopped, losses) => served(
+            waiting,
+            sending,
+            stopped as usize,
+            losses as usize,
+        ),
+        Answer::Picked(channel) => served(channel as usize, 0, 0, 0),
+        Answer::NoneReady => served(0xFF, 0, 0, 0),
+    }
+}
+
+// The number of items, or the refusal.
+fn tell_reading(reading: Reading) -> Told
+    ensures { λ r. ⌜ r ≡ readingTold reading ⌝ }
+{
+    match reading {
+        Reading::Items(count) => served(count, 0, 0, 0),
+        Reading::Unread(refusal) => tell_refusal(refusal),
+    }
+}
+
+// What is told of a call's answer.
+fn told_of(answered: Answered) -> Told
+    ensures { λ r. ⌜ r ≡ told (answered .answer) ⌝ }
+{
+    let answer = answered.answer;
+    tell(answer)
 }
 
 // The channel after it.
@@ -25,24 +105,139 @@ fn channel_of(answered: Answered) -> Channel
     answered.channel
 }
 
+// A fresh record.
+#[no_mangle]
+pub extern "C" fn papergrotto_fresh() -> Channel
+    ensures { λ r. ⌜ (r ≡ channelOf depth calls.fresh) × Sound depth twelve r ⌝ }
+{
+    Channel::fresh()
+}
+
 // One arrival at the channel that is lent.
-pub fn arrive_at(channel: &mut Channel, kind: u8, byte: u8) -> Answer
+#[no_mangle]
+pub extern "C" fn papergrotto_arrive(channel: &mut Channel, kind: u8, byte: u8) -> Told
     requires { ⌜ Sound depth twelve (now channel) ⌝ }
-    ensures { λ r. ⌜ Promise depth twelve (now (channel .entry)) (calls.arrive kind byte) (record { answer = r; channel = now (channel .exit) }) [] ⌝ }
+    ensures { λ r. ⌜ Promise depth twelve (now (channel .entry)) (calls.arrive kind byte) r (now (channel .exit)) [] ⌝ }
 {
     let old = *channel;
     let arrived = old.arrive(kind, byte);
     *channel = channel_of(arrived);
-    answer_of(arrived)
+    told_of(arrived)
 }
 
 // "Line turn, one character time", of the channel that is lent.
-pub fn turn_at(channel: &mut Channel) -> Answer
+#[no_mangle]
+pub extern "C" fn papergrotto_turn(channel: &mut Channel) -> Told
     requires { ⌜ Sound depth twelve (now channel) ⌝ }
-    ensures { λ r. ⌜ Promise depth twelve (now (channel .entry)) (calls.line lines.turn) (record { answer = r; channel = now (channel .exit) }) [] ⌝ }
+    ensures { λ r. ⌜ Promise depth twelve (now (channel .entry)) (calls.line lines.turn) r (now (channel .exit)) [] ⌝ }
 {
     let old = *channel;
     let turned = old.turn();
     *channel = channel_of(turned);
-    answer_of(turned)
+    told_of(turned)
+}
+
+// "Read n characters", into a lent buffer "from a given place on".
+#[no_mangle]
+pub extern "C" fn papergrotto_read(
+    channel: &mut Channel,
+    n: usize,
+    buffer: &mut [u8],
+    place: usize,
+) -> Told
+    requires { ⌜ Sound depth twelve (now channel) ⌝ }
+    ensures { λ r. ⌜ Promise depth twelve (now (channel .entry)) (calls.read n place (now (buffer .entry)))
+        r (now (channel .exit)) (now (buffer .exit)) ⌝ }
+{
+    let old = *channel;
+    let read = old.read(n, buffer, place);
+    *channel = channel_of(read);
+    told_of(read)
+}
+
+// "Load: takes the first min(length, room) bytes; answers that number."
+#[no_mangle]
+pub extern "C" fn papergrotto_load(channel: &mut Channel, bytes: &[u8]) -> Told
+    requires { ⌜ Sound depth twelve (now channel) ⌝ }
+    ensures { λ r. ⌜ Promise depth twelve (now (channel .entry)) (calls.line (lines.load (now (bytes .entry))))
+        r (now (channel .exit)) (now (bytes .entry)) ⌝ }
+{
+    let old = *channel;
+    let loaded = old.load(bytes);
+    *channel = channel_of(loaded);
+    told_of(loaded)
+}
+
+// Settings, as 15 bytes.
+#[no_mangle]
+pub extern "C" fn papergrotto_take_settings(channel: &mut Channel, bytes: &[u8]) -> Told
+    requires { ⌜ Sound depth twelve (now channel) ⌝ }
+    ensures { λ r. ⌜ Promise depth twelve (now (channel .entry)) (calls.settings (now (bytes .entry)))
+        r (now (channel .exit)) (now (bytes .entry)) ⌝ }
+{
+    let old = *channel;
+    let taken = old.take_settings(bytes);
+    *channel = channel_of(taken);
+    told_of(taken)
+}
+
+// CTS, 0 or 1.
+#[no_mangle]
+pub extern "C" fn papergrotto_set_cts(channel: &mut Channel, value: u8) -> Told
+    requires { ⌜ Sound depth twelve (now channel) ⌝ }
+    ensures { λ r. ⌜ Promise depth twelve (now (channel .entry)) (calls.line (lines.cts value)) r (now (channel .exit)) [] ⌝ }
+{
+    let old = *channel;
+    let set = old.set_cts(value);
+    *channel = channel_of(set);
+    told_of(set)
+}
+
+// "Special s from 1 to 4: the present special character s waits for the next turn."
+#[no_mangle]
+pub extern "C" fn papergrotto_ask_special(channel: &mut Channel, number: u8) -> Told
+    requires { ⌜ Sound depth twelve (now channel) ⌝ }
+    ensures { λ r. ⌜ Promise depth twelve (now (channel .entry)) (calls.line (lines.special number)) r (now (channel .exit)) [] ⌝ }
+{
+    let old = *channel;
+    let asked = old.ask_special(number);
+    *channel = channel_of(asked);
+    told_of(asked)
+}
+
+// "State": the record goes by value and stays as it is.
+#[no_mangle]
+pub extern "C" fn papergrotto_state(channel: Channel) -> Told
+    requires { ⌜ Sound depth twelve channel ⌝ }
+    ensures { λ r. ⌜ Promise depth twelve channel calls.state r channel [] ⌝ }
+{
+    tell(channel.state())
+}
+
+// "waiting items reach its threshold": what a pick asks of a channel.
+#[no_mangle]
+pub extern "C" fn papergrotto_ready(channel: Channel) -> bool
+    requires { ⌜ Sound depth twelve channel ⌝ }
+    ensures { λ r. ⌜ r ≡ atThreshold channel ⌝ }
+{
+    channel.ready()
+}
+
+// "Reading a marked stream": how many items, into the fronts of two lent buffers.
+#[no_mangle]
+pub extern "C" fn papergrotto_decode(stream: &[u8], sorts: &mut [u8], bytes: &mut [u8]) -> Told
+    ensures { λ r. ⌜ r ≡ readingTold (paper.decode (now (stream .entry)) (now (sorts .entry)) (now (bytes .entry)) .answer) ⌝ }
+    ensures { λ _. ⌜ now (sorts .exit) ≡ paper.decode (now (stream .entry)) (now (sorts .entry)) (now (bytes .entry)) .sorts ⌝ }
+    ensures { λ _. ⌜ now (bytes .exit) ≡ paper.decode (now (stream .entry)) (now (sorts .entry)) (now (bytes .entry)) .bytes ⌝ }
+{
+    tell_reading(stream::decode(stream, sorts, bytes))
+}
+
+// "the front of a stream up to its first FF": it starts where the stream does, so C has its length.
+#[no_mangle]
+pub extern "C" fn papergrotto_clean_front(stream: &[u8]) -> usize
+    ensures { λ r. ⌜ r ≡ length (paper.cleanFront (now (stream .entry))) ⌝ }
+{
+    let front = stream::clean_front(stream);
+    front.len()
 }

@@ -12,6 +12,7 @@ use paper::Item;
 use paper::Ruling;
 
 // The counts stand first, so that the record has no gaps.
+#[repr(C)]
 pub struct Queue {
     pub count: usize,
     pub losses: u16,

@@ -13,6 +13,7 @@ use paper::Settings;
 
 // "a transmit queue of 12 bytes", the oldest at place 0, zeros behind the last; an owed NL; whether a special character waits, and
 // which (0 where none does); CTS.
+#[repr(C)]
 pub struct Transmitter {
     pub count: usize,
     pub bytes: [u8; Transmitter::DEPTH],

@@ -1,0 +1,63 @@
+"""What the tests share: the Rattle kit, how a program for x86-64 is run, and how C is linked with the proved library."""
+import os
+import platform
+import shutil
+import subprocess
+import sys
+
+ROOT = os.path.dirname(os.path.dirname(os.path.realpath(__file__)))
+WORK = os.path.join(ROOT, 'target', 'tests')
+HEADERS = os.path.join(ROOT, 'include')
+LIBRARY = os.path.join(ROOT, 'target', 'staticlib', 'libpolling.a')
+
+
+def told(*command, **words):
+    """What a command writes; where it fails, what it said, and the end."""
+    ran = subprocess.run(command, stdin=subprocess.DEVNULL, capture_output=True, check=False, cwd=ROOT, **words)
+    if ran.returncode != 0:
+        sys.exit(f'{" ".join(command)} failed:\n{ran.stdout.decode()}{ran.stderr.decode()}')
+    return ran.stdout.decode().strip()
+
+
+def kit():
+    """The kit's folder for this machine: rt doc answers KIT/docs/START-HERE.md."""
+    home = os.path.dirname(os.path.dirname(told('rt', 'doc')))
+    return os.path.join(home, 'on', platform.machine())
+
+
+def emulator():
+    """What stands before an x86-64 program's name on another machine: the kit's emulator."""
+    found = os.path.join(kit(), 'toolchain', 'bin', 'qemu-x86_64')
+    return [found] if os.access(found, os.X_OK) else []
+
+
+def runner():
+    """What stands before the name of a program that the kit linked: its loader, and before it the emulator where there is one."""
+    tools = os.path.join(kit(), 'toolchain')
+    return emulator() + [os.path.join(tools, 'lib', 'ld-linux-x86-64.so.2'), '--library-path', os.path.join(tools, 'lib')]
+
+
+def library():
+    """The proved static library; it is proved and written first, unless it is newer than all that it is made of."""
+    sources = [os.path.join(folder, name) for folder, _, names in os.walk(os.path.join(ROOT, 'crates')) for name in names]
+    if not os.path.exists(LIBRARY) or max(map(os.path.getmtime, sources)) > os.path.getmtime(LIBRARY):
+        told('rt', 'staticlib', 'polling')
+    return LIBRARY
+
+
+def c_compiler():
+    """A C compiler for x86-64: the machine's own, or the cross compiler."""
+    own = ['cc'] if platform.machine() == 'x86_64' else []
+    for name in own + ['x86_64-linux-gnu-gcc']:
+        if shutil.which(name):
+            return name
+    sys.exit('no C compiler for x86-64: Debian has it in the package gcc-x86-64-linux-gnu')
+
+
+def c_program(source, headers=HEADERS):
+    """Builds a C file with the header and the library; the words that run it. It is linked statically, so that the emulator needs no loader."""
+    os.makedirs(WORK, exist_ok=True)
+    program = os.path.join(WORK, os.path.basename(source)[:-len('.c')])
+    told(c_compiler(), '-std=c11', '-O2', '-Wall', '-Wextra', '-Werror', '-I', headers, '-static', '-o', program,
+         os.path.join(ROOT, source), library())
+    return emulator() + [program]

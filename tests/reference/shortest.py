@@ -1,0 +1,66 @@
+"""The shortest trace that shows a difference."""
+
+
+def lines_of(data):
+    """The lines, and whether the last one has its newline."""
+    lines = data.split(b'\n')
+    return (lines[:-1], True) if lines[-1] == b'' else (lines, False)
+
+
+def shown(lines, limit=200):
+    """A line as a person reads it: bytes that are no text as escapes, and a long line by its start."""
+    text = repr(lines)[2:-1]
+    return text if len(text) <= limit else f'{text[:limit]}... ({len(lines)} bytes)'
+
+
+def reduced(parts, still):
+    """Leaves out parts, in ever smaller runs, as long as what is left still shows it."""
+    size = len(parts) // 2
+    while size >= 1:
+        at = 0
+        while at < len(parts):
+            fewer = parts[:at] + parts[at + size:]
+            if still(fewer):
+                parts = fewer
+            else:
+                at += size
+        size //= 2
+    return parts
+
+
+def shortest_trace(data, asked, answering):
+    """The frames that are left, each with the program's answer and the reference's."""
+    lines, ended = lines_of(data)
+
+    def differs(some):
+        given = b'\n'.join(some) + (b'\n' if ended else b'')
+        return asked(given) != answering(given)
+
+    ours, theirs = (lines_of(answer(data))[0] for answer in (asked, answering))
+    first = next((at for at, (one, other) in enumerate(zip(ours, theirs)) if one != other), min(len(ours), len(theirs)))
+    if differs(lines[:first + 1]):
+        lines = lines[:first + 1]
+    lines = reduced(lines, differs)
+    given = b'\n'.join(lines) + (b'\n' if ended else b'')
+    ours, theirs = (lines_of(answer(given))[0] for answer in (asked, answering))
+    yield f'{len(lines)} frames are left of the trace; the frame, the program\'s answer, the reference\'s:'
+    for at, line in enumerate(lines):
+        one, other = (shown(answers[at]) if at < len(answers) else '(nothing)' for answers in (ours, theirs))
+        yield f'{shown(line)}  {one}  {other}' + ('  <--' if one != other else '')
+
+
+def shortest_case(cases, ours, theirs, asked, answering):
+    """One stream: its first difference, with bytes left out as long as the answers differ."""
+    lines = zip(*(lines_of(text)[0] for text in (cases, ours, theirs)))
+    case = next((case for case, one, other in lines if one != other), None)
+    if case is None:
+        yield 'fewer answers than cases'
+        return
+    first, second, digits = case.split(b' ')
+    stream = [digits[at:at + 2] for at in range(0, len(digits), 2)] if digits != b'-' else []
+
+    def words(some):
+        return b' '.join((first, second, b''.join(some) or b'-')) + b'\n'
+
+    stream = reduced(stream, lambda some: asked(words(some)) != answering(words(some)))
+    yield f'{words(stream).decode().strip()}: the program {asked(words(stream)).decode().strip()}, the reference {answering(words(stream)).decode().strip()}'

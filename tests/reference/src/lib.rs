@@ -1,0 +1,9 @@
+//! An independent reference implementation of the paper
+//! "Exact rules for the build: four serial channels".
+//! Comments in quotation marks quote the paper.
+
+pub mod card;
+pub mod frames;
+pub mod generate;
+pub mod random;
+pub mod stream;
