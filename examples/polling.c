@@ -20,15 +20,20 @@ struct event {
 /* The next event; false at the end of the input. */
 static bool poll(struct event *event)
 {
-    char line[2 * LONGEST + 2];
+    char line[2 * LONGEST + 2];     /* its digits, the newline and the end */
+    size_t digits;
     unsigned byte;
 
+    *event = (struct event){0};
     if (fgets(line, sizeof line, stdin) == NULL)
         return false;
-    event->length = 0;
-    event->what = sscanf(line, "%2x", &byte) == 1 ? (uint8_t)byte : 0;
-    for (const char *at = line; strlen(at) > 5 && sscanf(at + 4, "%2x", &byte) == 1; at += 2)
-        event->bytes[event->length++] = (uint8_t)byte;
+    digits = strspn(line, "0123456789ABCDEFabcdef");
+    for (size_t at = 0; at + 2 <= digits && sscanf(line + at, "%2x", &byte) == 1; at += 2) {
+        if (at == 0)
+            event->what = (uint8_t)byte;
+        if (at >= 4)                /* behind the channel's number */
+            event->bytes[event->length++] = (uint8_t)byte;
+    }
     return true;
 }
 
