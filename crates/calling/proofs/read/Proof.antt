@@ -1,10 +1,7 @@
-use Rattle.calling.proofs.Answers.{fits, said}
+use Rattle.calling.proofs.Answers.{fits}
 use borrow.Author.Needs.{needs}
 use Rattle.calling.proofs.read.Statement.{statement}
 use Rattle.calling.proofs.read.Tie as tie
-
-wide-requires : tie.Need-wide-requires
-wide-requires c κs = search needs
 
 slice-aggregate-read : tie.Need-slice-aggregate-read
 slice-aggregate-read c = search needs
@@ -22,16 +19,12 @@ same-length : tie.Need-same-length
 same-length c = search needs
 
 returns : tie.Need-returns
-returns c =
-    let p = rw (c .before .before .before .before .before .before .before .before .before .before .wide .ensures) at
-    (c .before .before .before .before .before .before .before .before .read .ensures) in
-    said _ _ _ _ p _ _ _ _ (c .before .before .before .put-read .ensures)
+returns c = search needs
 
 pub read-spec : {M : Type 1} → statement M
 read-spec =
     tie.close
     (tie.spec
-    wide-requires
     slice-aggregate-read
     read-requires
     slice-aggregate-put-read

@@ -2,9 +2,9 @@ use mathlib.Core.Path.{refl, sym, _∙_}
 use Prim.Native.Nat.{_-_, _<_}
 use native.Mathlib.Omega.{arith}
 use lib.ListN.{length}
-use Rattle.calling.proofs.Frames.{asks-arrival, asks-read, asks-load, asks-turn, asks-cts, asks-special, asks-settings, asks-reset, asks-state}
-use Rattle.calling.proofs.Frames.{two-or-longer}
-use Rattle.calling.proofs.Lines.{is-pick}
+use Rattle.asking.proofs.Frames.{asks-arrival, asks-read, asks-load, asks-turn, asks-cts, asks-special, asks-settings, asks-reset, asks-state}
+use Rattle.asking.proofs.Frames.{two-or-longer}
+use Rattle.asking.proofs.Frames.{is-pick}
 use Rattle.serving.proofs.Loop.{Standing, found, goes, open-line, channel-line, shown-line, aside-line, more-piece, more-room}
 use Rattle.serving.proofs.Loop.{fit-to-call, stops-here}
 use borrow.Author.Needs.{needs}

@@ -1,8 +1,8 @@
 use borrow.Author.Needs.{needs}
 use borrow.Author.Tests.{eq-eqb, ne-eqb}
-use Rattle.calling.specs.Asked.{bytesIn}
-use Rattle.calling.proofs.bytes_in.Statement.{statement}
-use Rattle.calling.proofs.bytes_in.Tie as tie
+use Rattle.asking.specs.Asked.{bytesIn}
+use Rattle.asking.proofs.bytes_in.Statement.{statement}
+use Rattle.asking.proofs.bytes_in.Tie as tie
 
 returns : tie.Need-returns
 unfolding bytesIn

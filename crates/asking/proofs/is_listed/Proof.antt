@@ -1,8 +1,8 @@
 use mathlib.Core.Path.{sym, _∙_}
-use Rattle.calling.proofs.Frames.{unknown-0, unknown, as-listed, too-short, may-be-longer, longer}
+use Rattle.asking.proofs.Frames.{unknown-0, unknown, as-listed, too-short, may-be-longer, longer}
 use borrow.Author.Needs.{needs}
-use Rattle.calling.proofs.is_listed.Statement.{statement}
-use Rattle.calling.proofs.is_listed.Tie as tie
+use Rattle.asking.proofs.is_listed.Statement.{statement}
+use Rattle.asking.proofs.is_listed.Tie as tie
 
 returns : tie.Need-returns
 returns c = sym (unknown-0 _ _ (c .if1 .taken))

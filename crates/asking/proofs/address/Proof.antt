@@ -2,10 +2,10 @@ use mathlib.Core.Path.{refl, sym, _∙_}
 use native.Mathlib.Omega.{arith}
 use borrow.Author.Needs.{needs}
 use borrow.Author.Tests.{lt-ltb, le-ltb, not-true, not-false}
-use Rattle.calling.specs.Asked.{addressOf}
-use Rattle.calling.proofs.Frames.{empty, nowhere, to-pick, to-channel, has-channel, addressed}
-use Rattle.calling.proofs.address.Statement.{statement}
-use Rattle.calling.proofs.address.Tie as tie
+use Rattle.asking.specs.Asked.{addressOf}
+use Rattle.asking.proofs.Frames.{empty, nowhere, to-pick, to-channel, has-channel, addressed}
+use Rattle.asking.proofs.address.Statement.{statement}
+use Rattle.asking.proofs.address.Tie as tie
 
 returns : tie.Need-returns
 returns c = sym (empty _ (c .if1 .taken))

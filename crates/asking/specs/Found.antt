@@ -8,8 +8,8 @@ use Rattle.paper.specs.Card as model
 use Rattle.paper.specs.Frames.{callOf, replied}
 use Rattle.hexadecimal.specs.declared.Line.{Line}
 use Rattle.hexadecimal.specs.Line.{Fits, left}
-use Rattle.calling.specs.declared.Next.{Next}
-use Rattle.calling.specs.Asked.{addressOf}
+use Rattle.asking.specs.declared.Next.{Next}
+use Rattle.asking.specs.Asked.{addressOf}
 
 -- Reading on found no end of the line, or its end and where the call goes: then what there is to write is the paper's answer to the frame, and what
 -- the paper writes after it.

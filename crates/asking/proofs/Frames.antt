@@ -7,14 +7,14 @@ use Prim.Native.Nat.{ℕ, zero, suc, _+_, _-_, _≤_, _<_}
 use native.Mathlib.Omega.{arith}
 use lib.Dec.{eqb, leb, ltb}
 use lib.ListN.{length, getD, take, drop, replicate, length-take}
-use borrow.Author.Tests.{eqb-true, eqb-false, leb-true, eq-eqb, ne-eqb, lt-leb, le-leb}
+use borrow.Author.Tests.{eqb-true, eqb-false, leb-true, ltb-false, eq-eqb, ne-eqb, lt-leb, le-leb}
 use Rattle.paper.specs.Choice.{if_then_else_}
 use Rattle.paper.specs.Settings.{twelve}
 use Rattle.paper.specs.Transmitter.{load, turn, cts, special}
 use Rattle.paper.specs.Channel.{arrive, read, settings, reset, state, line}
 use Rattle.paper.specs.Card.{Call, on, pick}
 use Rattle.paper.specs.Frames.{callOf}
-use Rattle.calling.specs.Asked.{listed, Listed, callIn, addressOf}
+use Rattle.asking.specs.Asked.{listed, Listed, callIn, addressOf}
 
 either : {P : Type 0} (n k : ℕ) → (n ≡ k → P) → ((n ≡ k → ⊥) → P) → P
 either {P} n k same other = go (eqb n k) refl
@@ -71,6 +71,29 @@ pub empty : (f : List ℕ) → length f ≡ 0 → addressOf (callOf twelve f) �
 unfolding addressOf callOf
 empty [] e = refl
 empty (b ∷ f) e = absurd (omega arith)
+
+-- WHERE A CALL GOES
+
+pub is-pick : (asked : Option Call) → addressOf asked ≡ 5 → asked ≡ some pick
+unfolding addressOf
+is-pick none e = absurd (omega arith)
+is-pick (some pick) e = refl
+is-pick (some (on n c)) e = go (ltb 3 n) refl
+  where
+    go : (t : Bool) → ltb 3 n ≡ t → some (on n c) ≡ some pick
+    go true h = (let is-5 : _≡_ {A = ℕ} 4 5 = rw h at e in absurd (omega arith))
+    go false h = (let is-5 : n ≡ 5 = rw h at e in absurd (omega (arith, ltb-false 3 n h)))
+
+-- what goes to no channel, is no pick and for no channel above 3, is no call
+pub is-none : (asked : Option Call) → 3 < addressOf asked → (addressOf asked ≡ 5 → ⊥) → (addressOf asked ≡ 4 → ⊥) → asked ≡ none
+unfolding addressOf
+is-none none h a b = refl
+is-none (some pick) h a b = absurd (a refl)
+is-none (some (on n c)) h a b = go (ltb 3 n) refl
+  where
+    go : (t : Bool) → ltb 3 n ≡ t → some (on n c) ≡ none
+    go true e = absurd (b (rw e))
+    go false e = (let large : 3 < n = rw e at h in absurd (omega (arith, ltb-false 3 n e)))
 
 -- THE LENGTHS THAT ARE LISTED
 

@@ -1,9 +1,9 @@
 use native.Mathlib.Omega.{arith}
 use lib.ListN.{length-take}
-use Rattle.calling.proofs.Onward.{bytes-small, leads-behind, leads-on}
+use Rattle.asking.proofs.Onward.{bytes-small, leads-behind, leads-on}
 use borrow.Author.Needs.{needs}
-use Rattle.calling.proofs.next_line.Statement.{statement}
-use Rattle.calling.proofs.next_line.Tie as tie
+use Rattle.asking.proofs.next_line.Statement.{statement}
+use Rattle.asking.proofs.next_line.Tie as tie
 
 gather-requires : tie.Need-gather-requires
 gather-requires c κs = search needs

@@ -16,9 +16,9 @@ use Rattle.hexadecimal.specs.declared.Line.{Line}
 use Rattle.hexadecimal.specs.declared.Cut.{Cut}
 use Rattle.hexadecimal.specs.Line.{held, Fits, left, Gathers}
 use Rattle.hexadecimal.proofs.Laws.{left-start, ended-call}
-use Rattle.calling.specs.declared.Next.{Next}
-use Rattle.calling.specs.Asked.{addressOf, bytesIn}
-use Rattle.calling.specs.Found.{goes-on, ends, Leads}
+use Rattle.asking.specs.declared.Next.{Next}
+use Rattle.asking.specs.Asked.{addressOf, bytesIn}
+use Rattle.asking.specs.Found.{goes-on, ends, Leads}
 
 abbrev empty : Line
 empty = record { digits = 0; last = 0 }
