@@ -10,6 +10,8 @@ use lib.Dec.{eqb, ltb}
 use lib.ListN.{length, take, set, length-append, length-take, length-map}
 use lib.Seq.{take-suc-set}
 use borrow.Author.Tests.{ltb-false}
+use denote.Enum.Declared.{tagOf}
+use types.Run.{OneOf, miss}
 use Rattle.paper.specs.Given.{Given}
 use Rattle.paper.specs.Settings.{twelve, badField}
 use Rattle.paper.specs.Arrival.{NL}
@@ -21,7 +23,7 @@ use Rattle.paper.specs.Channel.{Channel, ChannelCall, arrive, read, settings, r
 use Rattle.paper.specs.Card.{Card, Call, on, pick, at, step}
 use Rattle.paper.specs.Bounds.{SoundChannel, Sound}
 use Rattle.paper.specs.Frames.{hexadecimal}
-use Rattle.paper.specs.Numbers.{refusalNumbers}
+use Rattle.paper.specs.Numbers.{refusalNumbers, numbers}
 use Rattle.paper.specs.declared.Settings.{Settings}
 use Rattle.paper.specs.declared.Flags.{Flags}
 use Rattle.paper.specs.declared.Item.{Item}
@@ -29,10 +31,14 @@ use Rattle.paper.specs.declared.Item.the-variants.{Plain, Doubled, Damaged}
 use Rattle.paper.specs.declared.Refusal.{Refusal}
 use Rattle.paper.specs.declared.Refusal.the-variants.{BadChannel, BadKind, TooMany, NoRoom, BadField, BadSpecial}
 use Rattle.paper.specs.declared.Refusal.the-variants.{SpecialWaits, BrokenStream, ShortOutput, BadCts, BadLine}
+use Rattle.paper.specs.declared.Answer.{Answer}
+use Rattle.paper.specs.declared.Answer.the-variants.{Refused, Fated, Handed, Took, Silent, Sent, Done, Shown, Picked, NoneReady}
+use Rattle.paper.proofs.Refusal as refusals
+use Rattle.paper.proofs.Answer as answers
 use Rattle.demands.proofs.Choices.{chosen, either}
 use Rattle.demands.proofs.Cases.{by-number, by-pick}
 use Rattle.hexadecimal.specs.Written.{Wrote}
-use Rattle.answers.specs.Line.{refusalNumber, Small}
+use Rattle.answers.specs.Line.{refusalNumber, secondNumber, lineOf, Small}
 
 pub wrote-then : {before between after s t : List ℕ} {at middle end : ℕ} → Wrote before at s between middle → Wrote between middle t after end
     → Wrote before at (s ++ t) after end
@@ -47,49 +53,93 @@ pub wrote-one : (out : List ℕ) (at character : ℕ) → at < length out → Wr
 wrote-one out at character h = record { place = refl; front = rw add-one (take-suc-set out at character h) }
 
 -- two characters a number
-length-hexadecimal : (l : List ℕ) → length (hexadecimal l) ≡ 2 * length l
+pub length-hexadecimal : (l : List ℕ) → length (hexadecimal l) ≡ 2 * length l
 length-hexadecimal [] = refl
 length-hexadecimal (b ∷ l) = omega (arith, length-hexadecimal l)
 
 -- a refusal's number and what follows it
-pub followed : {before between after : List ℕ} {at middle end number first next : ℕ} (r : Refusal) → refusalNumbers r ≡ first ∷ next ∷ []
-    → number ≡ refusalNumber r → Wrote before at (hexadecimal (number ∷ [])) between middle → Wrote between middle (hexadecimal (next ∷ [])) after end
-    → Wrote before at (hexadecimal (refusalNumbers r)) after end
-followed r e n p q =
-    let m = rw e at n in
-    rw (e, ← m) (wrote-then p q)
+pub refused : {before after rest : List ℕ} {at end number first : ℕ} (r : Refusal) → refusalNumbers r ≡ first ∷ rest → number ≡ refusalNumber r
+    → Wrote before at (lineOf (number ∷ rest)) after end → Wrote before at (lineOf (refusalNumbers r)) after end
+refused r e n w = (let m = rw e at n in rw (e, ← m) w)
+
+-- WHICH ANSWER IT IS. A match that comes to its last arm has told the variant, counted from 0, to be one of those that no other arm names.
 
 -- a refusal that has neither a field nor a place is its number alone
-pub alone : (r : Refusal) → ((field : ℕ) → r ≡ BadField field → ⊥) → ((place : ℕ) → r ≡ BrokenStream place → ⊥)
-    → refusalNumbers r ≡ refusalNumber r ∷ []
-alone BadChannel f p = refl
-alone BadKind f p = refl
-alone TooMany f p = refl
-alone NoRoom f p = refl
-alone (BadField field) f p = absurd (f field refl)
-alone BadSpecial f p = refl
-alone SpecialWaits f p = refl
-alone (BrokenStream place) f p = absurd (p place refl)
-alone ShortOutput f p = refl
-alone BadCts f p = refl
-alone BadLine f p = refl
+abbrev Alone : List ℕ
+Alone = 0 ∷ 1 ∷ 2 ∷ 3 ∷ 5 ∷ 6 ∷ 8 ∷ 9 ∷ 10 ∷ []
 
--- what stands before a line's newline: of a refusal at most two numbers, of a read's bytes at most 36
-pub refusal-short : (r : Refusal) → length (hexadecimal (refusalNumbers r)) ≤ 4
-refusal-short BadChannel = omega arith
-refusal-short BadKind = omega arith
-refusal-short TooMany = omega arith
-refusal-short NoRoom = omega arith
-refusal-short (BadField field) = omega arith
-refusal-short BadSpecial = omega arith
-refusal-short SpecialWaits = omega arith
-refusal-short (BrokenStream place) = omega arith
-refusal-short ShortOutput = omega arith
-refusal-short BadCts = omega arith
-refusal-short BadLine = omega arith
+pub alone : (r : Refusal) → OneOf Alone (tagOf refusals.the-type r) → refusalNumbers r ≡ refusalNumber r ∷ []
+alone BadChannel h = refl
+alone BadKind h = refl
+alone TooMany h = refl
+alone NoRoom h = refl
+alone (BadField field) h = absurd (miss Alone 4 tt h)
+alone BadSpecial h = refl
+alone SpecialWaits h = refl
+alone (BrokenStream place) h = absurd (miss Alone 7 tt h)
+alone ShortOutput h = refl
+alone BadCts h = refl
+alone BadLine h = refl
 
-pub read-short : (bytes : ℕ) (lent : List ℕ) → bytes ≤ 36 → length (hexadecimal (take bytes lent)) ≤ 72
-read-short bytes lent h = omega (arith, length-hexadecimal (take bytes lent), length-take bytes lent)
+-- 00 and one number
+abbrev Paired : List ℕ
+Paired = 1 ∷ 3 ∷ 4 ∷ 8 ∷ 9 ∷ []
+
+pub paired : (a : Answer) → OneOf Paired (tagOf answers.the-type a) → numbers a [] ≡ 0 ∷ secondNumber a ∷ []
+paired (Refused r) h = absurd (miss Paired 0 tt h)
+paired (Fated f) h = refl
+paired (Handed characters flagged bytes) h = absurd (miss Paired 2 tt h)
+paired (Took n) h = refl
+paired Silent h = refl
+paired (Sent b) h = absurd (miss Paired 5 tt h)
+paired Done h = absurd (miss Paired 6 tt h)
+paired (Shown waiting sending stopped losses) h = absurd (miss Paired 7 tt h)
+paired (Picked n) h = refl
+paired NoneReady h = refl
+
+-- no number there, or 00
+abbrev Zero : List ℕ
+Zero = 0 ∷ 2 ∷ 4 ∷ 5 ∷ 6 ∷ 7 ∷ []
+
+pub zero : (a : Answer) → OneOf Zero (tagOf answers.the-type a) → 0 ≡ secondNumber a
+zero (Refused r) h = refl
+zero (Fated f) h = absurd (miss Zero 1 tt h)
+zero (Handed characters flagged bytes) h = refl
+zero (Took n) h = absurd (miss Zero 3 tt h)
+zero Silent h = refl
+zero (Sent b) h = refl
+zero Done h = refl
+zero (Shown waiting sending stopped losses) h = refl
+zero (Picked n) h = absurd (miss Zero 8 tt h)
+zero NoneReady h = absurd (miss Zero 9 tt h)
+
+-- all but what a read handed over: nothing that was lent stands in the line
+abbrev Unlent : List ℕ
+Unlent = 0 ∷ 1 ∷ 3 ∷ 4 ∷ 5 ∷ 6 ∷ 7 ∷ 8 ∷ 9 ∷ []
+
+pub unlent : (a : Answer) (lent : List ℕ) → OneOf Unlent (tagOf answers.the-type a) → numbers a lent ≡ numbers a []
+unlent (Refused r) lent h = refl
+unlent (Fated f) lent h = refl
+unlent (Handed characters flagged bytes) lent h = absurd (miss Unlent 2 tt h)
+unlent (Took n) lent h = refl
+unlent Silent lent h = refl
+unlent (Sent b) lent h = refl
+unlent Done lent h = refl
+unlent (Shown waiting sending stopped losses) lent h = refl
+unlent (Picked n) lent h = refl
+unlent NoneReady lent h = refl
+
+pub unlent-small : (a : Answer) (lent : List ℕ) → OneOf Unlent (tagOf answers.the-type a) → Small a lent → Small a []
+unlent-small (Refused r) lent h s = s
+unlent-small (Fated f) lent h s = s
+unlent-small (Handed characters flagged bytes) lent h s = absurd (miss Unlent 2 tt h)
+unlent-small (Took n) lent h s = s
+unlent-small Silent lent h s = s
+unlent-small (Sent b) lent h s = s
+unlent-small Done lent h s = s
+unlent-small (Shown waiting sending stopped losses) lent h s = s
+unlent-small (Picked n) lent h s = s
+unlent-small NoneReady lent h s = s
 
 -- EVERY ANSWER OF THE PAPER'S STEP ON A SOUND CHANNEL OR CARD FITS A LINE
 

@@ -2,7 +2,7 @@
 use mathlib.Core.List.{List, [], _∷_, _++_}
 use Prim.Native.Nat.{ℕ, _<_, _≤_}
 use lib.ListN.{length, getD}
-use Rattle.paper.specs.Numbers.{refusalNumbers, numbers}
+use Rattle.paper.specs.Numbers.{refusalNumbers, fateNumber, numbers}
 use Rattle.paper.specs.Frames.{hexadecimal, newline}
 use Rattle.paper.specs.declared.Refusal.{Refusal}
 use Rattle.paper.specs.declared.Refusal.the-variants.{BadChannel, BadKind, TooMany, NoRoom, BadField, BadSpecial}
@@ -11,12 +11,28 @@ use Rattle.paper.specs.declared.Answer.{Answer}
 use Rattle.paper.specs.declared.Answer.the-variants as answers
 
 -- "prints one line of hexadecimal in capitals": as the paper's `answered` has it
+abbrev pub lineOf : (values : List ℕ) → List ℕ
+lineOf values = hexadecimal values ++ newline ∷ []
+
 abbrev pub line : Answer → (lent : List ℕ) → List ℕ
-line answer lent = hexadecimal (numbers answer lent) ++ newline ∷ []
+line answer lent = lineOf (numbers answer lent)
 
 -- "Answers begin with 00 or the refusal number"
 abbrev pub refusalNumber : Refusal → ℕ
 refusalNumber r = getD (refusalNumbers r) 0 0
+
+-- "fate; .. or taken; or 00, ..; or the channel picked, FF for none": what follows 00, of an answer with one number there
+abbrev pub secondNumber : Answer → ℕ
+secondNumber (answers.Refused r) = 0
+secondNumber (answers.Fated f) = fateNumber f
+secondNumber (answers.Handed characters flagged bytes) = 0
+secondNumber (answers.Took n) = n
+secondNumber answers.Silent = 0
+secondNumber (answers.Sent b) = 0
+secondNumber answers.Done = 0
+secondNumber (answers.Shown waiting sending stopped losses) = 0
+secondNumber (answers.Picked n) = n
+secondNumber answers.NoneReady = 0xFF
 
 -- WHAT FITS A LINE. Each number of the answer is a byte: those that its type does not bound are named here.
 

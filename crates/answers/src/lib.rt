@@ -1,13 +1,13 @@
 // An answer as a line: its numbers as hexadecimal in capitals, and a newline.
 ghost use mathlib.Core.Path.{_≡_};
 ghost use mathlib.Core.List.{[], _∷_};
-ghost use Prim.Native.Nat.{_+_, _<_, _≤_};
+ghost use Prim.Native.Nat.{_+_, _*_, _<_, _≤_};
 ghost use lib.ListN.{length};
 ghost use Rattle.paper.specs.Choice.{if_then_else_};
-ghost use Rattle.paper.specs.Numbers.{refusalNumbers, fateNumber};
+ghost use Rattle.paper.specs.Numbers.{fateNumber};
 ghost use Rattle.paper.specs.Frames as frames;
 ghost use Rattle.hexadecimal.specs.Written.{Wrote};
-ghost use Rattle.answers.specs.Line.{refusalNumber, line, Small, SmallRefusal, SmallRead};
+ghost use Rattle.answers.specs.Line.{refusalNumber, secondNumber, lineOf, line, Small, SmallRefusal, SmallRead};
 use paper::Answer;
 use paper::Fate;
 use paper::Refusal;
@@ -17,22 +17,30 @@ pub const LONGEST: usize = 79;
 
 const NEWLINE: u8 = 10;
 
-// The newline behind an answer's numbers; answers the place behind it, as all that put something here do.
-fn end_line(out: &mut [u8], at: usize) -> usize
-    requires { ⌜ at < length (now out) ⌝ }
-    ensures { λ r. ⌜ Wrote (now (out .entry)) at (frames.newline ∷ []) (now (out .exit)) r ⌝ }
+// A line of numbers, from a place on; answers the place behind it, as all that put something here do.
+fn put_numbers(out: &mut [u8], at: usize, numbers: &[u8]) -> usize
+    requires { ⌜ at + 2 * length (now numbers) < length (now out) ⌝ }
+    ensures { λ r. ⌜ Wrote (now (out .entry)) at (lineOf (now (numbers .entry))) (now (out .exit)) r ⌝ }
 {
-    out[at] = NEWLINE;
-    at + 1
+    let end = hexadecimal::put_bytes(out, at, numbers);
+    out[end] = NEWLINE;
+    end + 1
 }
 
-// Two numbers.
-fn put_two(out: &mut [u8], at: usize, first: u8, second: u8) -> usize
-    requires { ⌜ at + 4 ≤ length (now out) ⌝ }
-    ensures { λ r. ⌜ Wrote (now (out .entry)) at (frames.hexadecimal (first ∷ second ∷ [])) (now (out .exit)) r ⌝ }
+// One number: "00 alone", or a refusal's.
+fn put_alone(out: &mut [u8], at: usize, number: u8) -> usize
+    requires { ⌜ at + 3 ≤ length (now out) ⌝ }
+    ensures { λ r. ⌜ Wrote (now (out .entry)) at (lineOf (number ∷ [])) (now (out .exit)) r ⌝ }
 {
-    let middle = hexadecimal::put_byte(out, at, first);
-    hexadecimal::put_byte(out, middle, second)
+    put_numbers(out, at, &[number])
+}
+
+// Two numbers: 00 and "fate", "taken", "00" or "the channel picked, FF for none"; or a refusal's and what follows it.
+pub fn put_pair(out: &mut [u8], at: usize, first: u8, second: u8) -> usize
+    requires { ⌜ at + 5 ≤ length (now out) ⌝ }
+    ensures { λ r. ⌜ Wrote (now (out .entry)) at (lineOf (first ∷ second ∷ [])) (now (out .exit)) r ⌝ }
+{
+    put_numbers(out, at, &[first, second])
 }
 
 // "Refusal numbers"
@@ -54,26 +62,17 @@ pub fn refusal_number(refusal: Refusal) -> u8
     }
 }
 
-// "5 is followed by its field", 8 by "the place of the offending FF".
-fn put_refusal(out: &mut [u8], at: usize, refusal: Refusal) -> usize
-    requires { ⌜ (at + 4 ≤ length (now out)) × SmallRefusal refusal ⌝ }
-    ensures { λ r. ⌜ Wrote (now (out .entry)) at (frames.hexadecimal (refusalNumbers refusal)) (now (out .exit)) r ⌝ }
-{
-    let behind = hexadecimal::put_byte(out, at, refusal_number(refusal));
-    match refusal {
-        Refusal::BadField(field) => hexadecimal::put_byte(out, behind, field),
-        Refusal::BrokenStream(place) => hexadecimal::put_byte(out, behind, place as u8),
-        _ => behind,
-    }
-}
-
-// A refusal's line: "Answers begin with 00 or the refusal number".
+// A refusal's line: "Answers begin with 00 or the refusal number (5 is followed by its field)", and 8 by "the place of the offending FF".
 pub fn put_refused(out: &mut [u8], at: usize, refusal: Refusal) -> usize
     requires { ⌜ (at + 79 ≤ length (now out)) × SmallRefusal refusal ⌝ }
     ensures { λ r. ⌜ Wrote (now (out .entry)) at (line (Answer.Refused refusal) []) (now (out .exit)) r ⌝ }
 {
-    let end = put_refusal(out, at, refusal);
-    end_line(out, end)
+    let number = refusal_number(refusal);
+    match refusal {
+        Refusal::BadField(field) => put_pair(out, at, number, field),
+        Refusal::BrokenStream(place) => put_pair(out, at, number, place as u8),
+        _ => put_alone(out, at, number),
+    }
 }
 
 // "0 stored, 1 nothing to store, 2 lost"
@@ -87,17 +86,8 @@ pub fn fate_number(fate: Fate) -> u8
     }
 }
 
-// "fate"
-pub fn put_fated(out: &mut [u8], at: usize, fate: Fate) -> usize
-    requires { ⌜ at + 79 ≤ length (now out) ⌝ }
-    ensures { λ r. ⌜ Wrote (now (out .entry)) at (line (Answer.Fated fate) []) (now (out .exit)) r ⌝ }
-{
-    let end = put_two(out, at, 0, fate_number(fate));
-    end_line(out, end)
-}
-
 // "characters, flagged, bytes": of the lent bytes those that were written.
-pub fn put_handed(
+fn put_handed(
     out: &mut [u8],
     at: usize,
     characters: usize,
@@ -109,47 +99,17 @@ pub fn put_handed(
     ensures { λ r. ⌜ Wrote (now (out .entry)) at
         (line (Answer.Handed characters flagged bytes) (now (lent .entry))) (now (out .exit)) r ⌝ }
 {
-    let behind = put_two(out, at, 0, characters as u8);
-    let start = hexadecimal::put_byte(out, behind, flagged as u8);
-    let end = hexadecimal::put_bytes(out, start, &lent[..bytes]);
-    end_line(out, end)
-}
-
-// "taken"
-pub fn put_took(out: &mut [u8], at: usize, taken: usize) -> usize
-    requires { ⌜ (at + 79 ≤ length (now out)) × (taken < 256) ⌝ }
-    ensures { λ r. ⌜ Wrote (now (out .entry)) at (line (Answer.Took taken) []) (now (out .exit)) r ⌝ }
-{
-    let end = put_two(out, at, 0, taken as u8);
-    end_line(out, end)
-}
-
-// "00, or 01 and the byte sent": a turn that sent nothing.
-pub fn put_silent(out: &mut [u8], at: usize) -> usize
-    requires { ⌜ at + 79 ≤ length (now out) ⌝ }
-    ensures { λ r. ⌜ Wrote (now (out .entry)) at (line Answer.Silent []) (now (out .exit)) r ⌝ }
-{
-    let end = put_two(out, at, 0, 0);
-    end_line(out, end)
+    let counts = [0, characters as u8, flagged as u8];
+    let start = hexadecimal::put_bytes(out, at, &counts);
+    put_numbers(out, start, &lent[..bytes])
 }
 
 // "01 and the byte sent"
-pub fn put_sent(out: &mut [u8], at: usize, byte: u8) -> usize
+fn put_sent(out: &mut [u8], at: usize, byte: u8) -> usize
     requires { ⌜ at + 79 ≤ length (now out) ⌝ }
     ensures { λ r. ⌜ Wrote (now (out .entry)) at (line (Answer.Sent byte) []) (now (out .exit)) r ⌝ }
 {
-    let behind = put_two(out, at, 0, 1);
-    let end = hexadecimal::put_byte(out, behind, byte);
-    end_line(out, end)
-}
-
-// "Served frames 05, 06, 07 and 09 answer 00 alone."
-pub fn put_done(out: &mut [u8], at: usize) -> usize
-    requires { ⌜ at + 79 ≤ length (now out) ⌝ }
-    ensures { λ r. ⌜ Wrote (now (out .entry)) at (line Answer.Done []) (now (out .exit)) r ⌝ }
-{
-    let end = hexadecimal::put_byte(out, at, 0);
-    end_line(out, end)
+    put_numbers(out, at, &[0, 1, byte])
 }
 
 // "stopped (1) or running (0)"
@@ -160,7 +120,7 @@ fn stopped_number(stopped: bool) -> u8
 }
 
 // "waiting, transmit waiting, stopped, loss high, loss low"
-pub fn put_shown(
+fn put_shown(
     out: &mut [u8],
     at: usize,
     waiting: usize,
@@ -172,50 +132,48 @@ pub fn put_shown(
     ensures { λ r. ⌜ Wrote (now (out .entry)) at
         (line (Answer.Shown waiting sending stopped losses) []) (now (out .exit)) r ⌝ }
 {
-    let behind = put_two(out, at, 0, waiting as u8);
-    let start = put_two(out, behind, sending as u8, stopped_number(stopped));
-    let end = put_two(out, start, (losses / 256) as u8, (losses % 256) as u8);
-    end_line(out, end)
+    let numbers = [
+        0,
+        waiting as u8,
+        sending as u8,
+        stopped_number(stopped),
+        (losses / 256) as u8,
+        (losses % 256) as u8,
+    ];
+    put_numbers(out, at, &numbers)
 }
 
-// "the channel picked"
-pub fn put_picked(out: &mut [u8], at: usize, channel: u8) -> usize
-    requires { ⌜ at + 79 ≤ length (now out) ⌝ }
-    ensures { λ r. ⌜ Wrote (now (out .entry)) at (line (Answer.Picked channel) []) (now (out .exit)) r ⌝ }
+// "fate"; or "taken"; or "00", by the last arm; or "the channel picked, FF for none": what follows 00 where it is one number.
+fn second_number(answer: Answer) -> u8
+    requires { ⌜ Small answer [] ⌝ }
+    ensures { λ r. ⌜ r ≡ secondNumber answer ⌝ }
 {
-    let end = put_two(out, at, 0, channel);
-    end_line(out, end)
+    match answer {
+        Answer::Fated(fate) => fate_number(fate),
+        Answer::Took(taken) => taken as u8,
+        Answer::Picked(channel) => channel,
+        Answer::NoneReady => 0xFF,
+        _ => 0,
+    }
 }
 
-// "FF for none"
-pub fn put_none_ready(out: &mut [u8], at: usize) -> usize
-    requires { ⌜ at + 79 ≤ length (now out) ⌝ }
-    ensures { λ r. ⌜ Wrote (now (out .entry)) at (line Answer.NoneReady []) (now (out .exit)) r ⌝ }
-{
-    let end = put_two(out, at, 0, 255);
-    end_line(out, end)
-}
-
-// The answer's line, from a place on; answers the place behind it.
-pub fn put_answer(out: &mut [u8], at: usize, answer: Answer, lent: &[u8]) -> usize
-    requires { ⌜ (at + 79 ≤ length (now out)) × Small answer (now lent) ⌝ }
-    ensures { λ r. ⌜ Wrote (now (out .entry)) at (line answer (now (lent .entry))) (now (out .exit)) r ⌝ }
+// The line of an answer to which nothing was lent, from a place on; answers the place behind it.
+fn put_plain(out: &mut [u8], at: usize, answer: Answer) -> usize
+    requires { ⌜ (at + 79 ≤ length (now out)) × Small answer [] ⌝ }
+    ensures { λ r. ⌜ Wrote (now (out .entry)) at (line answer []) (now (out .exit)) r ⌝ }
 {
     match answer {
         Answer::Refused(refusal) => put_refused(out, at, refusal),
-        Answer::Fated(fate) => put_fated(out, at, fate),
         Answer::Handed(characters, flagged, bytes) => put_handed(
             out,
             at,
             characters,
             flagged,
             bytes,
-            lent,
+            b"",
         ),
-        Answer::Took(taken) => put_took(out, at, taken),
-        Answer::Silent => put_silent(out, at),
         Answer::Sent(byte) => put_sent(out, at, byte),
-        Answer::Done => put_done(out, at),
+        Answer::Done => put_alone(out, at, 0),
         Answer::Shown(waiting, sending, stopped, losses) => put_shown(
             out,
             at,
@@ -224,27 +182,12 @@ pub fn put_answer(out: &mut [u8], at: usize, answer: Answer, lent: &[u8]) -> usi
             stopped,
             losses,
         ),
-        Answer::Picked(channel) => put_picked(out, at, channel),
-        Answer::NoneReady => put_none_ready(out, at),
+        _ => put_pair(out, at, 0, second_number(answer)),
     }
 }
 
-// SHORT WAYS, one for each sort of call. The answers that a call mostly gives are written without asking for the others; any other answer is written
-// all the same, for the promise is that of put_answer.
-
-// An arrival's answer: a fate, but for a refusal.
-pub fn put_arrival(out: &mut [u8], at: usize, answer: Answer) -> usize
-    requires { ⌜ (at + 79 ≤ length (now out)) × Small answer [] ⌝ }
-    ensures { λ r. ⌜ Wrote (now (out .entry)) at (line answer []) (now (out .exit)) r ⌝ }
-{
-    match answer {
-        Answer::Fated(fate) => put_fated(out, at, fate),
-        _ => put_answer(out, at, answer, b""),
-    }
-}
-
-// A read's answer: what was handed over, but for a refusal.
-pub fn put_read(out: &mut [u8], at: usize, answer: Answer, lent: &[u8]) -> usize
+// The answer's line: what a read handed over stands in the lent bytes, and of any other answer nothing does.
+pub fn put_answer(out: &mut [u8], at: usize, answer: Answer, lent: &[u8]) -> usize
     requires { ⌜ (at + 79 ≤ length (now out)) × Small answer (now lent) ⌝ }
     ensures { λ r. ⌜ Wrote (now (out .entry)) at (line answer (now (lent .entry))) (now (out .exit)) r ⌝ }
 {
@@ -257,18 +200,32 @@ pub fn put_read(out: &mut [u8], at: usize, answer: Answer, lent: &[u8]) -> usize
             bytes,
             lent,
         ),
-        _ => put_answer(out, at, answer, lent),
+        _ => put_plain(out, at, answer),
+    }
+}
+
+// SHORT WAYS, one for each sort of call but the read, whose own answer put_answer asks for first. The answers that a call mostly gives are written
+// without asking for the others; any other answer is written all the same, for the promise is that of put_answer.
+
+// An arrival's answer: a fate, but for a refusal.
+pub fn put_arrival(out: &mut [u8], at: usize, answer: Answer) -> usize
+    requires { ⌜ (at + 79 ≤ length (now out)) × Small answer [] ⌝ }
+    ensures { λ r. ⌜ Wrote (now (out .entry)) at (line answer []) (now (out .exit)) r ⌝ }
+{
+    match answer {
+        Answer::Fated(fate) => put_pair(out, at, 0, fate_number(fate)),
+        _ => put_plain(out, at, answer),
     }
 }
 
 // A load's answer: how many of the bytes it took.
-pub fn put_load(out: &mut [u8], at: usize, answer: Answer, bytes: &[u8]) -> usize
-    requires { ⌜ (at + 79 ≤ length (now out)) × Small answer (now bytes) ⌝ }
-    ensures { λ r. ⌜ Wrote (now (out .entry)) at (line answer (now (bytes .entry))) (now (out .exit)) r ⌝ }
+pub fn put_load(out: &mut [u8], at: usize, answer: Answer, loaded: &[u8]) -> usize
+    requires { ⌜ (at + 79 ≤ length (now out)) × Small answer (now loaded) ⌝ }
+    ensures { λ r. ⌜ Wrote (now (out .entry)) at (line answer (now (loaded .entry))) (now (out .exit)) r ⌝ }
 {
     match answer {
-        Answer::Took(taken) => put_took(out, at, taken),
-        _ => put_answer(out, at, answer, bytes),
+        Answer::Took(taken) => put_pair(out, at, 0, taken as u8),
+        _ => put_answer(out, at, answer, loaded),
     }
 }
 
@@ -278,20 +235,19 @@ pub fn put_turn(out: &mut [u8], at: usize, answer: Answer) -> usize
     ensures { λ r. ⌜ Wrote (now (out .entry)) at (line answer []) (now (out .exit)) r ⌝ }
 {
     match answer {
-        Answer::Silent => put_silent(out, at),
+        Answer::Silent => put_pair(out, at, 0, 0),
         Answer::Sent(byte) => put_sent(out, at, byte),
-        _ => put_answer(out, at, answer, b""),
+        _ => put_plain(out, at, answer),
     }
 }
 
-// The answer of CTS, special, reset and settings, which were lent bytes: done, or a refusal.
+// The answer of CTS, special, reset and settings, which were lent bytes: done, but for a refusal.
 pub fn put_change(out: &mut [u8], at: usize, answer: Answer, bytes: &[u8]) -> usize
     requires { ⌜ (at + 79 ≤ length (now out)) × Small answer (now bytes) ⌝ }
     ensures { λ r. ⌜ Wrote (now (out .entry)) at (line answer (now (bytes .entry))) (now (out .exit)) r ⌝ }
 {
     match answer {
-        Answer::Done => put_done(out, at),
-        Answer::Refused(refusal) => put_refused(out, at, refusal),
+        Answer::Done => put_alone(out, at, 0),
         _ => put_answer(out, at, answer, bytes),
     }
 }
@@ -310,6 +266,6 @@ pub fn put_state(out: &mut [u8], at: usize, answer: Answer) -> usize
             stopped,
             losses,
         ),
-        _ => put_answer(out, at, answer, b""),
+        _ => put_plain(out, at, answer),
     }
 }

@@ -39,7 +39,7 @@ pub fn read(c: Channel, n: u8, out: &mut [u8], put: &mut usize) -> Channel
     let mut lent = [0u8; 36];
     let given = c.read(n as usize, &mut lent, 0);
     let answer = given.answer;
-    *put = answers::put_read(out, *put, answer, &lent);
+    *put = answers::put_answer(out, *put, answer, &lent);
     given.channel
 }
 
@@ -131,10 +131,10 @@ pub fn name_next(card: Card, out: &mut [u8], put: &mut usize) -> u8
     let ready = [zero.ready(), one.ready(), two.ready(), three.ready()];
     let found = card::look(card.place, ready);
     if found < 4 {
-        *put = answers::put_picked(out, *put, found);
+        *put = answers::put_pair(out, *put, 0, found);
         return found;
     }
-    *put = answers::put_none_ready(out, *put);
+    *put = answers::put_pair(out, *put, 0, 0xFF);
     card.place
 }
 

@@ -1,54 +1,43 @@
 use native.Mathlib.Omega.{arith}
 use lib.ListN.{length-take}
+use Rattle.answers.proofs.Laws.{wrote-then}
 use borrow.Author.Needs.{needs}
-use Rattle.answers.proofs.Laws.{wrote-then, read-short}
 use Rattle.answers.proofs.put_handed.Statement.{statement}
 use Rattle.answers.proofs.put_handed.Tie as tie
 
-cast-put-two : tie.Need-cast-put-two
-cast-put-two c = search needs
+cast-t9 : tie.Need-cast-t9
+cast-t9 c = search needs
 
-put-two-requires : tie.Need-put-two-requires
-put-two-requires c κs = search needs
-
-cast-put-byte : tie.Need-cast-put-byte
-cast-put-byte c = search needs
-
-put-byte-requires : tie.Need-put-byte-requires
-put-byte-requires c κs = search needs
+cast-t10 : tie.Need-cast-t10
+cast-t10 c = search needs
 
 slice-aggregate-put-bytes : tie.Need-slice-aggregate-put-bytes
-slice-aggregate-put-bytes c = simp length-take (omega arith)
+slice-aggregate-put-bytes c = search needs
 
 put-bytes-requires : tie.Need-put-bytes-requires
-put-bytes-requires c κs = simp length-take (omega arith)
+put-bytes-requires c κs = search needs
 
-end-line-requires : tie.Need-end-line-requires
-end-line-requires c κs =
-    let a = c .before .before .before .before .before .before .before .before .before .before .before .before .before .before .before .before in
-    omega (arith, read-short (a .args .bytes) (a .args .lent .now) (a .pre .1 .short))
+slice-aggregate-put-numbers : tie.Need-slice-aggregate-put-numbers
+slice-aggregate-put-numbers c = simp length-take (omega arith)
+
+put-numbers-requires : tie.Need-put-numbers-requires
+put-numbers-requires c κs = simp length-take (omega arith)
 
 same-length : tie.Need-same-length
 same-length c = search needs
 
 returns : tie.Need-returns
-returns c =
-    let third = c .before .before .before .before .before .before in
-    let second = third .before .before .before .before .before in
-    let first = second .before .before .before .before in
-    let numbers = wrote-then (wrote-then (first .put-two .ensures) (second .put-byte .ensures)) (third .put-bytes .ensures) in
-    wrote-then numbers (c .before .before .end-line .ensures)
+returns c = wrote-then (c .before .before .before .before .before .before .before .put-bytes .ensures) (c .before .before .put-numbers .ensures)
 
 pub put-handed-spec : {M : Type 1} → statement M
 put-handed-spec =
     tie.close
     (tie.spec
-    cast-put-two
-    put-two-requires
-    cast-put-byte
-    put-byte-requires
+    cast-t9
+    cast-t10
     slice-aggregate-put-bytes
     put-bytes-requires
-    end-line-requires
+    slice-aggregate-put-numbers
+    put-numbers-requires
     same-length
     returns)

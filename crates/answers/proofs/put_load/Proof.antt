@@ -6,10 +6,11 @@ use Rattle.answers.proofs.put_load.Tie as tie
 enum-known-answer : tie.Need-enum-known-answer
 enum-known-answer c = search needs
 
-put-took-requires : tie.Need-put-took-requires
-put-took-requires c κs =
-    let a = c .before .before .before .before .before .before in
-    (omega arith, rw (c .before .before .answer .given .1) at (a .pre .1))
+cast-put-pair : tie.Need-cast-put-pair
+cast-put-pair c = omega (arith, rw (c .before .before .answer .given .1) at (c .before .before .before .before .before .before .pre .1))
+
+put-pair-requires : tie.Need-put-pair-requires
+put-pair-requires c κs = search needs
 
 put-answer-requires : tie.Need-put-answer-requires
 put-answer-requires c κs = search needs
@@ -18,7 +19,7 @@ same-length : tie.Need-same-length
 same-length c = search needs
 
 returns : tie.Need-returns
-returns c = rw (c .before .before .before .before .before .answer .given .1) (c .before .before .put-took .ensures)
+returns c = rw (c .before .before .before .before .before .answer .given .1) (c .before .before .put-pair .ensures)
 
 same-length-2 : tie.Need-same-length-2
 same-length-2 c = search needs
@@ -31,7 +32,8 @@ put-load-spec =
     tie.close
     (tie.spec
     enum-known-answer
-    put-took-requires
+    cast-put-pair
+    put-pair-requires
     put-answer-requires
     same-length
     returns

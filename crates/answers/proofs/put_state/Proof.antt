@@ -7,15 +7,10 @@ enum-known-answer : tie.Need-enum-known-answer
 enum-known-answer c = search needs
 
 put-shown-requires : tie.Need-put-shown-requires
-put-shown-requires c κs =
-    let a = c .before .before .before .before .before in
-    (omega arith, rw (c .before .before .answer .given .1) at (a .pre .1))
+put-shown-requires c κs = (omega arith, rw (c .before .before .answer .given .1) at (c .before .before .before .before .before .pre .1))
 
-slice-aggregate-put-answer : tie.Need-slice-aggregate-put-answer
-slice-aggregate-put-answer c = search needs
-
-put-answer-requires : tie.Need-put-answer-requires
-put-answer-requires c κs = search needs
+put-plain-requires : tie.Need-put-plain-requires
+put-plain-requires c κs = search needs
 
 same-length : tie.Need-same-length
 same-length c = search needs
@@ -35,8 +30,7 @@ put-state-spec =
     (tie.spec
     enum-known-answer
     put-shown-requires
-    slice-aggregate-put-answer
-    put-answer-requires
+    put-plain-requires
     same-length
     returns
     same-length-2

@@ -5,8 +5,8 @@ use Rattle.answers.proofs.put_turn.Tie as tie
 enum-told : tie.Need-enum-told
 enum-told c = search needs
 
-put-silent-requires : tie.Need-put-silent-requires
-put-silent-requires c κs = search needs
+put-pair-requires : tie.Need-put-pair-requires
+put-pair-requires c κs = search needs
 
 enum-known-answer : tie.Need-enum-known-answer
 enum-known-answer c = search needs
@@ -14,17 +14,14 @@ enum-known-answer c = search needs
 put-sent-requires : tie.Need-put-sent-requires
 put-sent-requires c κs = search needs
 
-slice-aggregate-put-answer : tie.Need-slice-aggregate-put-answer
-slice-aggregate-put-answer c = search needs
-
-put-answer-requires : tie.Need-put-answer-requires
-put-answer-requires c κs = search needs
+put-plain-requires : tie.Need-put-plain-requires
+put-plain-requires c κs = search needs
 
 same-length : tie.Need-same-length
 same-length c = search needs
 
 returns : tie.Need-returns
-returns c = rw (c .before .before .before .before .enum-told .given .1) (c .before .before .put-silent .ensures)
+returns c = rw (c .before .before .before .before .enum-told .given .1) (c .before .before .put-pair .ensures)
 
 same-length-2 : tie.Need-same-length-2
 same-length-2 c = search needs
@@ -43,11 +40,10 @@ put-turn-spec =
     tie.close
     (tie.spec
     enum-told
-    put-silent-requires
+    put-pair-requires
     enum-known-answer
     put-sent-requires
-    slice-aggregate-put-answer
-    put-answer-requires
+    put-plain-requires
     same-length
     returns
     same-length-2

@@ -47,8 +47,8 @@ look-requires c κs =
     let a = c .before .before .before .before .before .before .before .before .before in
     omega (arith, place-small depth twelve (a .args .t1) (a .pre .0))
 
-put-picked-requires : tie.Need-put-picked-requires
-put-picked-requires c κs = search needs
+put-pair-requires : tie.Need-put-pair-requires
+put-pair-requires c κs = search needs
 
 same-length : tie.Need-same-length
 same-length c = search needs
@@ -62,10 +62,10 @@ returns c =
     (c .before .before .before .before .before .before .before .before .ready3 .ensures)
     (c .before .before .before .before .before .before .before .ready4 .ensures)
     (c .before .before .before .before .before .before .look .ensures) (c .before .before .before .before .before .if1 .taken) in
-    record { text = _; replies = replies (a .args .t1) pick _ _ [] p; wrote = c .before .before .put-picked .ensures }
+    record { text = _; replies = replies (a .args .t1) pick _ _ [] p; wrote = c .before .before .put-pair .ensures }
 
-put-none-ready-requires : tie.Need-put-none-ready-requires
-put-none-ready-requires c κs = search needs
+put-pair-requires-2 : tie.Need-put-pair-requires-2
+put-pair-requires-2 c κs = search needs
 
 same-length-2 : tie.Need-same-length-2
 same-length-2 c = search needs
@@ -79,7 +79,7 @@ returns-2 c =
     (c .before .before .before .before .before .before .before .before .ready3 .ensures)
     (c .before .before .before .before .before .before .before .ready4 .ensures)
     (c .before .before .before .before .before .before .look .ensures) (c .before .before .before .before .before .if1 .left) in
-    record { text = _; replies = replies (a .args .t1) pick _ _ [] p; wrote = c .before .before .put-none-ready .ensures }
+    record { text = _; replies = replies (a .args .t1) pick _ _ [] p; wrote = c .before .before .put-pair2 .ensures }
 
 pub name-next-spec : {M : Type 1} → statement M
 name-next-spec =
@@ -94,9 +94,9 @@ name-next-spec =
     ready-requires-3
     ready-requires-4
     look-requires
-    put-picked-requires
+    put-pair-requires
     same-length
     returns
-    put-none-ready-requires
+    put-pair-requires-2
     same-length-2
     returns-2)

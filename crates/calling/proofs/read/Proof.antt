@@ -9,11 +9,11 @@ slice-aggregate-read c = search needs
 read-requires : tie.Need-read-requires
 read-requires c κs = search needs
 
-slice-aggregate-put-read : tie.Need-slice-aggregate-put-read
-slice-aggregate-put-read c = search needs
+slice-aggregate-put-answer : tie.Need-slice-aggregate-put-answer
+slice-aggregate-put-answer c = search needs
 
-put-read-requires : tie.Need-put-read-requires
-put-read-requires c κs = search (needs, fits)
+put-answer-requires : tie.Need-put-answer-requires
+put-answer-requires c κs = search (needs, fits)
 
 same-length : tie.Need-same-length
 same-length c = search needs
@@ -27,7 +27,7 @@ read-spec =
     (tie.spec
     slice-aggregate-read
     read-requires
-    slice-aggregate-put-read
-    put-read-requires
+    slice-aggregate-put-answer
+    put-answer-requires
     same-length
     returns)

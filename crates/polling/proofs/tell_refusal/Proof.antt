@@ -1,17 +1,10 @@
 use mathlib.Core.Path.{ap}
-use mathlib.Core.List.{List, [], _∷_}
-use Prim.Native.Nat.{ℕ}
-use types.Run.{miss}
 use Rattle.paper.specs.Numbers.{refusalNumbers}
 use Rattle.answers.proofs.Laws.{alone}
 use Rattle.polling.proofs.Laws.{followed}
 use borrow.Author.Needs.{needs}
 use Rattle.polling.proofs.tell_refusal.Statement.{statement}
 use Rattle.polling.proofs.tell_refusal.Tie as tie
-
--- the variants, counted from 0, that are one number each
-others : List ℕ
-others = 0 ∷ 1 ∷ 2 ∷ 3 ∷ 5 ∷ 6 ∷ 8 ∷ 9 ∷ 10 ∷ []
 
 refusal-number-requires : tie.Need-refusal-number-requires
 refusal-number-requires c κs = search needs
@@ -39,10 +32,8 @@ returns-2 c =
     (c .before .before .before .refusal-number .ensures)
 
 returns-3 : tie.Need-returns-3
-unfolding others
 returns-3 c =
-    let r = c .before .before .args .refusal in
-    let e = alone r (λ field e. miss others 4 tt (rw e at (c .match .keys3))) (λ place e. miss others 7 tt (rw e at (c .match .keys3))) in
+    let e = alone (c .before .before .args .refusal) (c .match .keys3) in
     rw (e, ← c .before .refusal-number .ensures)
 
 pub tell-refusal-spec : {M : Type 1} → statement M
