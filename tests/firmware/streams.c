@@ -2,29 +2,12 @@
  * two outputs, and the stream in hexadecimal ('-' where it is empty). For each it prints 00 or the
  * refusal's number (with the count of items, or the place of the offending FF), the length of the
  * clean front, and both outputs, which held A5 before. */
+#include "digits.h"
 #include "papergrotto.h"
 
-#include <stdio.h>
 #include <string.h>
 
 enum { MOST = 4096 };
-
-static void print_bytes(const uint8_t *bytes, size_t length)
-{
-    printf(length == 0 ? " -" : " ");
-    for (size_t at = 0; at < length; at++)
-        printf("%02X", bytes[at]);
-}
-
-static size_t bytes_of(const char *digits, uint8_t *bytes)
-{
-    size_t length = 0;
-    unsigned byte;
-
-    while (sscanf(digits + 2 * length, "%2x", &byte) == 1)
-        bytes[length++] = (uint8_t)byte;
-    return length;
-}
 
 static void print_case(const uint8_t *stream, size_t length, size_t sorts_length, size_t bytes_length)
 {

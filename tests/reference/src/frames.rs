@@ -31,7 +31,7 @@ pub fn program(input: &[u8]) -> Vec<u8> {
 
 /// "A last line without its newline counts; empty input prints nothing; an
 /// empty line is refusal 11."
-fn lines(input: &[u8]) -> Vec<&[u8]> {
+pub fn lines(input: &[u8]) -> Vec<&[u8]> {
     let mut lines: Vec<&[u8]> = input.split(|byte| *byte == NEWLINE).collect();
     // What follows the last newline is a line only if it has a byte.
     if lines.last().is_some_and(|last| last.is_empty()) {

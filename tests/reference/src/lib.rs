@@ -3,7 +3,9 @@
 //! Comments in quotation marks quote the paper.
 
 pub mod card;
+pub mod fields;
 pub mod frames;
 pub mod generate;
 pub mod random;
+pub mod reads;
 pub mod stream;

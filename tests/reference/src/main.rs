@@ -1,29 +1,31 @@
-//! The command line of the reference: the frame program, the stream form, and
-//! the generators of random input for both.
+//! The command line of the reference: the frame program, the stream form, the
+//! reads form, and the generators of random input for each.
 
-use reference::frames;
+use reference::fields::{bytes_of_field, write_field, FILLING};
 use reference::generate::{self, streams, Profile};
 use reference::stream::{clean_front, read_stream, StreamRefusal};
+use reference::{frames, reads};
 use std::io::{self, Read, Write};
 use std::process::ExitCode;
 
 const USAGE: &str = "usage: reference frames
        reference stream
+       reference reads
        reference generate PROFILE SEED LINES
        reference streams SEED LINES
+       reference generate-reads SEED LINES
 profiles: mixed full marks flow turns settings refused lines picks";
-
-/// Both output buffers of a stream case are filled with this byte.
-const FILLING: u8 = 0xA5;
 
 fn main() -> ExitCode {
     let arguments: Vec<String> = std::env::args().skip(1).collect();
-    match run(&arguments) {
-        Ok(output) => match io::stdout().lock().write_all(&output) {
-            Ok(()) => ExitCode::SUCCESS,
-            Err(error) => complain(&error.to_string()),
-        },
-        Err(message) => complain(&message),
+    let mut output = Vec::new();
+    let ended = run(&arguments, &mut output);
+    // What was answered before an error is written too.
+    let written = io::stdout().lock().write_all(&output);
+    match (ended, written) {
+        (Ok(()), Ok(())) => ExitCode::SUCCESS,
+        (Err(message), _) => complain(&message),
+        (Ok(()), Err(error)) => complain(&error.to_string()),
     }
 }
 
@@ -32,24 +34,31 @@ fn complain(message: &str) -> ExitCode {
     ExitCode::FAILURE
 }
 
-fn run(arguments: &[String]) -> Result<Vec<u8>, String> {
+fn run(arguments: &[String], output: &mut Vec<u8>) -> Result<(), String> {
     let words: Vec<&str> = arguments.iter().map(String::as_str).collect();
     match words[..] {
-        ["frames"] => Ok(frames::program(&standard_input()?)),
-        ["stream"] => answer_cases(&standard_input()?),
+        ["frames"] => output.extend(frames::program(&standard_input()?)),
+        ["stream"] => output.extend(answer_cases(&standard_input()?)?),
+        ["reads"] => reads::program(&standard_input()?, output)?,
         ["generate", profile, seed, lines] => {
             let profile = Profile::named(profile).ok_or(USAGE)?;
             let seed = number(seed)?;
             let lines = number(lines)?;
-            Ok(generate::trace(profile, seed, lines as usize))
+            output.extend(generate::trace(profile, seed, lines as usize));
         }
         ["streams", seed, lines] => {
             let seed = number(seed)?;
             let lines = number(lines)?;
-            Ok(streams::cases(seed, lines as usize))
+            output.extend(streams::cases(seed, lines as usize));
         }
-        _ => Err(USAGE.to_string()),
+        ["generate-reads", seed, lines] => {
+            let seed = number(seed)?;
+            let lines = number(lines)?;
+            output.extend(generate::reads::trace(seed, lines as usize));
+        }
+        _ => return Err(USAGE.to_string()),
     }
+    Ok(())
 }
 
 fn standard_input() -> Result<Vec<u8>, String> {
@@ -93,22 +102,6 @@ fn case_of_line(line: &str) -> Option<(usize, usize, Vec<u8>)> {
     ))
 }
 
-fn bytes_of_field(field: &str) -> Option<Vec<u8>> {
-    if field == "-" {
-        return Some(Vec::new());
-    }
-    let good_digits = field
-        .bytes()
-        .all(|character| matches!(character, b'0'..=b'9' | b'A'..=b'F'));
-    if field.is_empty() || !field.len().is_multiple_of(2) || !good_digits {
-        return None;
-    }
-    (0..field.len())
-        .step_by(2)
-        .map(|place| u8::from_str_radix(&field[place..place + 2], 16).ok())
-        .collect()
-}
-
 /// Prints `NUMBER FRONT FIRST SECOND`.
 fn answer_case(first_length: usize, second_length: usize, stream: &[u8], output: &mut Vec<u8>) {
     let mut first = vec![FILLING; first_length];
@@ -120,16 +113,8 @@ fn answer_case(first_length: usize, second_length: usize, stream: &[u8], output:
     };
     let front = clean_front(stream).len();
     output.extend(format!("{number} {front} ").bytes());
-    write_buffer(&first, output);
+    write_field(&first, output);
     output.push(b' ');
-    write_buffer(&second, output);
+    write_field(&second, output);
     output.push(b'\n');
-}
-
-fn write_buffer(buffer: &[u8], output: &mut Vec<u8>) {
-    if buffer.is_empty() {
-        output.push(b'-');
-    } else {
-        frames::write_hexadecimal(buffer, output);
-    }
 }

@@ -31,7 +31,7 @@ impl Generator {
     }
 
     /// A byte above the limit, often just above.
-    fn byte_above(&mut self, limit: u8) -> u8 {
+    pub(super) fn byte_above(&mut self, limit: u8) -> u8 {
         match self.random.below(4) {
             0 | 1 => limit + 1,
             2 => 0xFF,

@@ -1,10 +1,12 @@
-//! Seeded random traces for the frame program, and cases for the stream form.
+//! Seeded random traces for the frame program and the reads form, and cases
+//! for the stream form.
 //!
 //! The generator keeps its idea of the traffic in a reference card that gets
 //! every line it writes.
 
 mod lines;
 mod plans;
+pub mod reads;
 mod settings;
 mod single;
 pub mod streams;
