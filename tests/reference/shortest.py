@@ -7,10 +7,10 @@ def lines_of(data):
     return (lines[:-1], True) if lines[-1] == b'' else (lines, False)
 
 
-def shown(lines, limit=200):
+def shown(line, limit=200):
     """A line as a person reads it: bytes that are no text as escapes, and a long line by its start."""
-    text = repr(lines)[2:-1]
-    return text if len(text) <= limit else f'{text[:limit]}... ({len(lines)} bytes)'
+    text = repr(line)[2:-1]
+    return text if len(text) <= limit else f'{text[:limit]}... ({len(line)} bytes)'
 
 
 def reduced(parts, still):
@@ -32,18 +32,19 @@ def shortest_trace(data, asked, answering):
     """The frames that are left, each with the program's answer and the reference's."""
     lines, ended = lines_of(data)
 
+    def joined(some):
+        return b''.join(line + b'\n' for line in some) if ended else b'\n'.join(some)
+
     def differs(some):
-        given = b'\n'.join(some) + (b'\n' if ended else b'')
-        return asked(given) != answering(given)
+        return asked(joined(some)) != answering(joined(some))
 
     ours, theirs = (lines_of(answer(data))[0] for answer in (asked, answering))
     first = next((at for at, (one, other) in enumerate(zip(ours, theirs)) if one != other), min(len(ours), len(theirs)))
     if differs(lines[:first + 1]):
         lines = lines[:first + 1]
     lines = reduced(lines, differs)
-    given = b'\n'.join(lines) + (b'\n' if ended else b'')
-    ours, theirs = (lines_of(answer(given))[0] for answer in (asked, answering))
-    yield f'{len(lines)} frames are left of the trace; the frame, the program\'s answer, the reference\'s:'
+    ours, theirs = (lines_of(answer(joined(lines)))[0] for answer in (asked, answering))
+    yield f'{len(lines)} lines are left of the trace; the line, the program\'s answer, the reference\'s:'
     for at, line in enumerate(lines):
         one, other = (shown(answers[at]) if at < len(answers) else '(nothing)' for answers in (ours, theirs))
         yield f'{shown(line)}  {one}  {other}' + ('  <--' if one != other else '')
