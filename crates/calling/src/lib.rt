@@ -129,7 +129,7 @@ pub fn name_next(card: Card, out: &mut [u8], put: &mut usize) -> u8
     let two = card.channels[2];
     let three = card.channels[3];
     let ready = [zero.ready(), one.ready(), two.ready(), three.ready()];
-    let found = card::look(card.place, ready);
+    let found = picking::look(card.place, ready);
     if found < 4 {
         *put = answers::put_pair(out, *put, 0, found);
         return found;

@@ -3,10 +3,10 @@ use mathlib.Core.Bool.{Bool, true, false}
 use mathlib.Core.List.{List, [], _∷_, map}
 use mathlib.Core.Option.{Option, none, some}
 use mathlib.Core.Path.{_≡_, refl, ap, ap₂, sym, subst, _∙_}
-use Prim.Native.Nat.{ℕ, zero, suc, _+_, _-_, _%_, _≤_, _<_}
+use Prim.Native.Nat.{ℕ, zero, suc, _+_, _%_, _≤_, _<_}
 use native.Mathlib.Omega.{arith}
 use lib.Dec.{leb, ltb}
-use lib.ListN.{length, drop, getD, set, length-map, List·getD-map}
+use lib.ListN.{length, getD, set, length-map, List·getD-map}
 use lib.Seq.{set-getD}
 use borrow.Author.Tests.{lt-ltb, le-ltb}
 use Rattle.paper.specs.Choice.{if_then_else_}
@@ -28,11 +28,11 @@ use Rattle.channel.specs.Held.{channelOf, channelIn}
 use Rattle.channel.specs.Held as channel
 use Rattle.channel.specs.Promise as channel-promise
 use Rattle.channel.proofs.Laws.{channel-in}
+use Rattle.picking.specs.Look.{found}
 use Rattle.card.specs.declared.Card.{Card}
 use Rattle.card.specs.declared.Answered.{Answered}
 use Rattle.card.specs.Held.{cardOf, cardIn, Sound}
 use Rattle.card.specs.Promise.{given, answered, Promise}
-use Rattle.card.specs.Look.{found, mark, marks}
 
 channels-in : (places : ℕ) (l : List _) → map channelIn (map (channelOf places) l) ≡ l
 channels-in places [] = refl
@@ -61,6 +61,13 @@ map-set : {A B : Type 0} (f : A → B) (l : List A) (i : ℕ) (a : A) → map f 
 map-set f [] i a = refl
 map-set f (x ∷ l) zero a = refl
 map-set f (x ∷ l) (suc i) a = ap (λ (m : List _). f x ∷ m) (map-set f l i a)
+
+-- whether the channel n of a card's record is ready; d is what would stand past the list's end
+abbrev pub mark : Channel → Card → ℕ → Bool
+mark d C n = channel-promise.atThreshold (getD (C .channels) n d)
+
+abbrev pub marks : Channel → Card → List Bool
+marks d C = mark d C 0 ∷ mark d C 1 ∷ mark d C 2 ∷ mark d C 3 ∷ []
 
 -- marks that were asked one by one
 pub looked : (d : Channel) (C : Card) {r₀ r₁ r₂ r₃ : Bool} {n : ℕ} → r₀ ≡ mark d C 0 → r₁ ≡ mark d C 1 → r₂ ≡ mark d C 2 → r₃ ≡ mark d C 3
@@ -229,24 +236,3 @@ module _ (places : ℕ) (z : Size) (C : Card) (s : Sound places z C) where
 
       pub picks-none : 4 ≤ n → Promise places z C pick (record { answer = NoneReady; card = C }) []
       picks-none beyond = names-none (none-found d n (looked d C e₀ e₁ e₂ e₃ e) beyond)
-
--- a round of four, one look at a time
-module _ (marks : List Bool) (p : ℕ) where
-  look : (k : ℕ) → 1 ≤ k → k < 5
-      → found marks (drop (k - 1) (round p)) ≡ (if getD marks ((p + k) % 4) false then (p + k) % 4 else found marks (drop k (round p)))
-  unfolding found
-  look zero low high = absurd (omega arith)
-  look (suc zero) low high = refl
-  look (suc (suc zero)) low high = refl
-  look (suc (suc (suc zero))) low high = refl
-  look (suc (suc (suc (suc zero)))) low high = refl
-  look (suc (suc (suc (suc (suc k))))) low high = absurd (omega arith)
-
-  module _ (k : ℕ) (low : 1 ≤ k) (high : k < 5) where
-    pub look-finds : getD marks ((p + k) % 4) false ≡ true → found marks (drop (k - 1) (round p)) ≡ (p + k) % 4
-    look-finds e = look k low high ∙ ap (λ (t : Bool). if t then (p + k) % 4 else found marks (drop k (round p))) e
-
-    pub look-on : getD marks ((p + k) % 4) false ≡ false → found marks (drop (k - 1) (round p)) ≡ found marks (drop (k + 1 - 1) (round p))
-    look-on e =
-        let m : k + 1 - 1 ≡ k = omega arith in
-        rw m (look k low high ∙ ap (λ (t : Bool). if t then (p + k) % 4 else found marks (drop k (round p))) e)

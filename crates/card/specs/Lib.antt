@@ -1,4 +1,3 @@
 pub mod Held
 pub mod Promise
-pub mod Look
 pub mod Runs

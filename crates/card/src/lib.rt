@@ -1,15 +1,13 @@
 // The card by value: four channels' records and the pick's place. Each call gives what the paper's step gives on the card that the record holds.
 ghost use mathlib.Core.List.{[]};
 ghost use mathlib.Core.Path.{_≡_};
-ghost use Prim.Native.Nat.{_≤_};
 ghost use Rattle.paper.specs.Settings.{twelve};
 ghost use Rattle.paper.specs.Transmitter as lines;
 ghost use Rattle.paper.specs.Channel as calls;
-ghost use Rattle.paper.specs.Card.{on, pick, round, freshCard};
+ghost use Rattle.paper.specs.Card.{on, pick, freshCard};
 ghost use Rattle.queue.specs.Held.{depth};
 ghost use Rattle.card.specs.Held.{Sound, cardOf};
 ghost use Rattle.card.specs.Promise.{Promise};
-ghost use Rattle.card.specs.Look.{found};
 use channel::Channel;
 use paper::Answer;
 use paper::Refusal;
@@ -222,7 +220,7 @@ impl Card {
         let two = self.channels[2];
         let three = self.channels[3];
         let ready = [zero.ready(), one.ready(), two.ready(), three.ready()];
-        let n = look(self.place, ready);
+        let n = picking::look(self.place, ready);
         if n < 4 {
             self.place = n;
             return Answered {
@@ -235,21 +233,4 @@ impl Card {
             card: self,
         }
     }
-}
-
-// The search of a pick: the first channel after `place`, going round 0 to 3, that is ready; 4 where none is. It wants no card, only four marks.
-pub fn look(place: u8, ready: [bool; 4]) -> u8
-    requires { ⌜ place ≤ 3 ⌝ }
-    ensures { λ r. ⌜ r ≡ found ready (round place) ⌝ }
-{
-    let mut k: u8 = 1;
-    while k < 5 {
-        let n = (place + k) % 4;
-        let i = n as usize;
-        if ready[i] {
-            return n;
-        }
-        k += 1;
-    }
-    4
 }

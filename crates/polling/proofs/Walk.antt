@@ -50,12 +50,12 @@ use Rattle.channel.proofs.Channel as channel
 use Rattle.channel.proofs.Channel.Laws as channel′
 use Rattle.channel.proofs.Answered as answered
 use Rattle.channel.proofs.Answered.Laws as answered′
-use Rattle.polling.specs.declared.Told.{Told}
-use Rattle.polling.specs.Told.{told}
+use Rattle.telling.specs.declared.Told.{Told}
+use Rattle.telling.specs.Told.{told}
 use Rattle.polling.specs.Promise.{Promise}
 use Rattle.polling.proofs.Laws.{kept}
-use Rattle.polling.proofs.Told as told-type
-use Rattle.polling.proofs.Told.Laws as told′
+use Rattle.telling.proofs.Told as told-type
+use Rattle.telling.proofs.Told.Laws as told′
 use Rattle.polling.proofs.channel_of as channel-of
 use Rattle.polling.proofs.channel_of.Symbol as channel-of-def
 use Rattle.polling.proofs.channel_of.Symbol.{name as #channel-of}

@@ -7,8 +7,8 @@ use Rattle.paper.specs.Channel.{ChannelCall}
 use Rattle.channel.specs.declared.Channel.{Channel}
 use Rattle.channel.specs.Held.{Sound}
 use Rattle.channel.specs.Promise.{given, answered}
-use Rattle.polling.specs.declared.Told.{Told}
-use Rattle.polling.specs.Told.{told}
+use Rattle.telling.specs.declared.Told.{Told}
+use Rattle.telling.specs.Told.{told}
 
 -- What is told, the record afterwards and the lent bytes afterwards are those of the paper's step on the record as it stood; and the record is sound.
 pub record Promise (places : ℕ) (z : Size) (before : Channel) (call : ChannelCall) (r : Told) (after : Channel) (lent : List ℕ) : Type 0 where

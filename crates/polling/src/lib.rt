@@ -1,101 +1,27 @@
 // For C: the calls of a polling loop, which "lends one channel's record and finds it altered where it stands", and the reader of a marked stream.
 // include/papergrotto.h declares them.
-ghost use mathlib.Core.List.{[], _∷_};
+ghost use mathlib.Core.List.{[]};
 ghost use mathlib.Core.Path.{_≡_};
 ghost use lib.ListN.{length};
 ghost use Rattle.paper.specs.Settings.{twelve};
-ghost use Rattle.paper.specs.Numbers.{refusalNumbers};
 ghost use Rattle.paper.specs.Channel as calls;
 ghost use Rattle.paper.specs.Transmitter as lines;
 ghost use Rattle.paper.specs.Stream as paper;
 ghost use Rattle.queue.specs.Held.{depth};
 ghost use Rattle.channel.specs.Held.{Sound, channelOf};
 ghost use Rattle.channel.specs.Promise.{atThreshold};
-ghost use Rattle.polling.specs.Told.{told, readingTold, laid};
+ghost use Rattle.telling.specs.Told.{told, readingTold};
 ghost use Rattle.polling.specs.Promise.{Promise};
 use channel::Answered;
 use channel::Channel;
-use paper::Answer;
-use paper::Reading;
-use paper::Refusal;
-
-// What a call tells: 0 or the refusal's number, and the values in the paper's order, with zeros behind them.
-#[repr(C)]
-pub struct Told {
-    pub refusal: usize,
-    pub values: [usize; 4],
-}
-
-// "5 is followed by its field", 8 by "the place of the offending FF".
-fn tell_refusal(refusal: Refusal) -> Told
-    ensures { λ r. ⌜ r ≡ laid (refusalNumbers refusal) ⌝ }
-{
-    let number = answers::refusal_number(refusal) as usize;
-    match refusal {
-        Refusal::BadField(field) => Told {
-            refusal: number,
-            values: [field as usize, 0, 0, 0],
-        },
-        Refusal::BrokenStream(place) => Told {
-            refusal: number,
-            values: [place, 0, 0, 0],
-        },
-        _ => Told {
-            refusal: number,
-            values: [0, 0, 0, 0],
-        },
-    }
-}
-
-// A served call: 0, and its values.
-fn served(first: usize, second: usize, third: usize, fourth: usize) -> Told
-    ensures { λ r. ⌜ r ≡ record { refusal = 0; values = first ∷ second ∷ third ∷ fourth ∷ [] } ⌝ }
-{
-    Told {
-        refusal: 0,
-        values: [first, second, third, fourth],
-    }
-}
-
-// "fate; or characters, flagged, bytes; or taken; ..."
-fn tell(answer: Answer) -> Told
-    ensures { λ r. ⌜ r ≡ told answer ⌝ }
-{
-    match answer {
-        Answer::Refused(refusal) => tell_refusal(refusal),
-        Answer::Fated(fate) => served(answers::fate_number(fate) as usize, 0, 0, 0),
-        Answer::Handed(characters, flagged, bytes) => served(characters, flagged, bytes, 0),
-        Answer::Took(taken) => served(taken, 0, 0, 0),
-        Answer::Silent => served(0, 0, 0, 0),
-        Answer::Sent(byte) => served(1, byte as usize, 0, 0),
-        Answer::Done => served(0, 0, 0, 0),
-        Answer::Shown(waiting, sending, stopped, losses) => served(
-            waiting,
-            sending,
-            stopped as usize,
-            losses as usize,
-        ),
-        Answer::Picked(channel) => served(channel as usize, 0, 0, 0),
-        Answer::NoneReady => served(0xFF, 0, 0, 0),
-    }
-}
-
-// The number of items, or the refusal.
-fn tell_reading(reading: Reading) -> Told
-    ensures { λ r. ⌜ r ≡ readingTold reading ⌝ }
-{
-    match reading {
-        Reading::Items(count) => served(count, 0, 0, 0),
-        Reading::Unread(refusal) => tell_refusal(refusal),
-    }
-}
+use telling::Told;
 
 // What is told of a call's answer.
 fn told_of(answered: Answered) -> Told
     ensures { λ r. ⌜ r ≡ told (answered .answer) ⌝ }
 {
     let answer = answered.answer;
-    tell(answer)
+    telling::tell(answer)
 }
 
 // The channel after it.
@@ -211,7 +137,7 @@ pub extern "C" fn papergrotto_state(channel: Channel) -> Told
     requires { ⌜ Sound depth twelve channel ⌝ }
     ensures { λ r. ⌜ Promise depth twelve channel calls.state r channel [] ⌝ }
 {
-    tell(channel.state())
+    telling::tell(channel.state())
 }
 
 // "waiting items reach its threshold": what a pick asks of a channel.
@@ -230,7 +156,7 @@ pub extern "C" fn papergrotto_decode(stream: &[u8], sorts: &mut [u8], bytes: &mu
     ensures { λ _. ⌜ now (sorts .exit) ≡ paper.decode (now (stream .entry)) (now (sorts .entry)) (now (bytes .entry)) .sorts ⌝ }
     ensures { λ _. ⌜ now (bytes .exit) ≡ paper.decode (now (stream .entry)) (now (sorts .entry)) (now (bytes .entry)) .bytes ⌝ }
 {
-    tell_reading(stream::decode(stream, sorts, bytes))
+    telling::tell_reading(stream::decode(stream, sorts, bytes))
 }
 
 // "the front of a stream up to its first FF": it starts where the stream does, so C has its length.

@@ -1,6 +1,6 @@
 use mathlib.Core.Path.{ap, _∙_}
 use Rattle.paper.specs.Stream.{Decoded}
-use Rattle.polling.specs.Told.{readingTold}
+use Rattle.telling.specs.Told.{readingTold}
 use borrow.Author.Needs.{needs}
 use Rattle.polling.proofs.papergrotto_decode.Statement.{statement}
 use Rattle.polling.proofs.papergrotto_decode.Tie as tie

@@ -1,10 +1,10 @@
 use mathlib.Core.Path.{ap}
 use Rattle.paper.specs.Numbers.{refusalNumbers}
 use Rattle.answers.proofs.Laws.{alone}
-use Rattle.polling.proofs.Laws.{followed}
+use Rattle.telling.proofs.Laws.{followed}
 use borrow.Author.Needs.{needs}
-use Rattle.polling.proofs.tell_refusal.Statement.{statement}
-use Rattle.polling.proofs.tell_refusal.Tie as tie
+use Rattle.telling.proofs.tell_refusal.Statement.{statement}
+use Rattle.telling.proofs.tell_refusal.Tie as tie
 
 refusal-number-requires : tie.Need-refusal-number-requires
 refusal-number-requires c κs = search needs

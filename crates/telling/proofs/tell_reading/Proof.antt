@@ -1,7 +1,7 @@
-use Rattle.polling.specs.Told.{readingTold}
+use Rattle.telling.specs.Told.{readingTold}
 use borrow.Author.Needs.{needs}
-use Rattle.polling.proofs.tell_reading.Statement.{statement}
-use Rattle.polling.proofs.tell_reading.Tie as tie
+use Rattle.telling.proofs.tell_reading.Statement.{statement}
+use Rattle.telling.proofs.tell_reading.Tie as tie
 
 enum-known-reading : tie.Need-enum-known-reading
 enum-known-reading c = search needs

@@ -1,8 +1,8 @@
-use Rattle.polling.specs.Told.{told}
-use Rattle.polling.proofs.Laws.{stopped-number}
+use Rattle.telling.specs.Told.{told}
+use Rattle.telling.proofs.Laws.{stopped-number}
 use borrow.Author.Needs.{needs}
-use Rattle.polling.proofs.tell.Statement.{statement}
-use Rattle.polling.proofs.tell.Tie as tie
+use Rattle.telling.proofs.tell.Statement.{statement}
+use Rattle.telling.proofs.tell.Tie as tie
 
 enum-known-answer : tie.Need-enum-known-answer
 enum-known-answer c = search needs

@@ -7,7 +7,7 @@ use Rattle.paper.specs.Numbers.{refusalNumbers, fateNumber, readingNumbers}
 use Rattle.paper.specs.declared.Answer.{Answer}
 use Rattle.paper.specs.declared.Answer.the-variants as answers
 use Rattle.paper.specs.declared.Reading.{Reading}
-use Rattle.polling.specs.declared.Told.{Told}
+use Rattle.telling.specs.declared.Told.{Told}
 
 -- "Answers begin with 00 or the refusal number (5 is followed by its field), then: ...": the frame program's numbers, but of a read how many bytes
 -- were written in the place of the bytes themselves, and a loss count as one number

@@ -4,10 +4,10 @@ use native.Mathlib.Omega.{arith}
 use lib.ListN.{drop}
 use borrow.Author.Needs.{needs}
 use Rattle.paper.specs.Card.{round}
-use Rattle.card.specs.Look.{found}
-use Rattle.card.proofs.Laws.{look-finds, look-on}
-use Rattle.card.proofs.look.Statement.{statement}
-use Rattle.card.proofs.look.Tie as tie
+use Rattle.picking.specs.Look.{found}
+use Rattle.picking.proofs.Laws.{look-finds, look-on}
+use Rattle.picking.proofs.look.Statement.{statement}
+use Rattle.picking.proofs.look.Tie as tie
 
 abbrev Inv-loop : tie.InvT-loop
 Inv-loop place ready k₀ k = ((1 ≤ k) × (k ≤ 5)) × (found ready (round place) ≡ found ready (drop (k - 1) (round place)))
