@@ -1,14 +1,12 @@
--- Numbers written one behind the other, how long a line is, and that every answer of the paper's step fits one.
+-- Which answer it is, and that every answer of the paper's step fits a line.
 use mathlib.Core.Bool.{Bool, true, false, _&&_, _||_}
-use mathlib.Core.List.{List, [], _∷_, _++_, append-assoc}
+use mathlib.Core.List.{List, [], _∷_}
 use mathlib.Core.Option.{Option, none, some}
-use mathlib.Core.Path.{_≡_, refl, ap, _∙_}
-use Prim.Native.Nat.{ℕ, _+_, _*_, _<_, _≤_}
+use mathlib.Core.Path.{_≡_, refl}
+use Prim.Native.Nat.{ℕ, _*_, _≤_}
 use native.Mathlib.Omega.{arith}
-use native.Mathlib.Numerals.{add-one}
 use lib.Dec.{eqb, ltb}
-use lib.ListN.{length, take, set, length-append, length-take, length-map}
-use lib.Seq.{take-suc-set}
+use lib.ListN.{length, length-append, length-take, length-map}
 use borrow.Author.Tests.{ltb-false}
 use denote.Enum.Declared.{tagOf}
 use types.Run.{OneOf, miss}
@@ -22,64 +20,19 @@ use Rattle.paper.specs.Transmitter.{loaded, sendNext, held, turned, specialTake
 use Rattle.paper.specs.Channel.{Channel, ChannelCall, arrive, read, settings, reset, state, line, noRoom, handedOver, settingsTaken, channelStep}
 use Rattle.paper.specs.Card.{Card, Call, on, pick, at, step}
 use Rattle.paper.specs.Bounds.{SoundChannel, Sound}
-use Rattle.paper.specs.Frames.{hexadecimal}
-use Rattle.paper.specs.Numbers.{refusalNumbers, numbers}
+use Rattle.paper.specs.Numbers.{numbers}
 use Rattle.paper.specs.declared.Settings.{Settings}
 use Rattle.paper.specs.declared.Flags.{Flags}
 use Rattle.paper.specs.declared.Item.{Item}
 use Rattle.paper.specs.declared.Item.the-variants.{Plain, Doubled, Damaged}
-use Rattle.paper.specs.declared.Refusal.{Refusal}
-use Rattle.paper.specs.declared.Refusal.the-variants.{BadChannel, BadKind, TooMany, NoRoom, BadField, BadSpecial}
-use Rattle.paper.specs.declared.Refusal.the-variants.{SpecialWaits, BrokenStream, ShortOutput, BadCts, BadLine}
 use Rattle.paper.specs.declared.Answer.{Answer}
 use Rattle.paper.specs.declared.Answer.the-variants.{Refused, Fated, Handed, Took, Silent, Sent, Done, Shown, Picked, NoneReady}
-use Rattle.paper.proofs.Refusal as refusals
 use Rattle.paper.proofs.Answer as answers
 use Rattle.demands.proofs.Choices.{chosen, either}
 use Rattle.demands.proofs.Cases.{by-number, by-pick}
-use Rattle.hexadecimal.specs.Written.{Wrote}
-use Rattle.answers.specs.Line.{refusalNumber, secondNumber, lineOf, Small}
-
-pub wrote-then : {before between after s t : List ℕ} {at middle end : ℕ} → Wrote before at s between middle → Wrote between middle t after end
-    → Wrote before at (s ++ t) after end
-wrote-then {before} {between} {after} {s} {t} {at} p q =
-    record {
-      place = rw length-append (omega arith);
-      front = q .front ∙ ap (_++ t) (p .front) ∙ append-assoc (take at before) s t;
-    }
-
--- one character
-pub wrote-one : (out : List ℕ) (at character : ℕ) → at < length out → Wrote out at (character ∷ []) (set out at character) (at + 1)
-wrote-one out at character h = record { place = refl; front = rw add-one (take-suc-set out at character h) }
-
--- two characters a number
-pub length-hexadecimal : (l : List ℕ) → length (hexadecimal l) ≡ 2 * length l
-length-hexadecimal [] = refl
-length-hexadecimal (b ∷ l) = omega (arith, length-hexadecimal l)
-
--- a refusal's number and what follows it
-pub refused : {before after rest : List ℕ} {at end number first : ℕ} (r : Refusal) → refusalNumbers r ≡ first ∷ rest → number ≡ refusalNumber r
-    → Wrote before at (lineOf (number ∷ rest)) after end → Wrote before at (lineOf (refusalNumbers r)) after end
-refused r e n w = (let m = rw e at n in rw (e, ← m) w)
+use Rattle.answers.specs.Line.{secondNumber, Small}
 
 -- WHICH ANSWER IT IS. A match that comes to its last arm has told the variant, counted from 0, to be one of those that no other arm names.
-
--- a refusal that has neither a field nor a place is its number alone
-abbrev Alone : List ℕ
-Alone = 0 ∷ 1 ∷ 2 ∷ 3 ∷ 5 ∷ 6 ∷ 8 ∷ 9 ∷ 10 ∷ []
-
-pub alone : (r : Refusal) → OneOf Alone (tagOf refusals.the-type r) → refusalNumbers r ≡ refusalNumber r ∷ []
-alone BadChannel h = refl
-alone BadKind h = refl
-alone TooMany h = refl
-alone NoRoom h = refl
-alone (BadField field) h = absurd (miss Alone 4 tt h)
-alone BadSpecial h = refl
-alone SpecialWaits h = refl
-alone (BrokenStream place) h = absurd (miss Alone 7 tt h)
-alone ShortOutput h = refl
-alone BadCts h = refl
-alone BadLine h = refl
 
 -- 00 and one number
 abbrev Paired : List ℕ

@@ -131,10 +131,10 @@ pub fn name_next(card: Card, out: &mut [u8], put: &mut usize) -> u8
     let ready = [zero.ready(), one.ready(), two.ready(), three.ready()];
     let found = picking::look(card.place, ready);
     if found < 4 {
-        *put = answers::put_pair(out, *put, 0, found);
+        *put = printing::put_pair(out, *put, 0, found);
         return found;
     }
-    *put = answers::put_pair(out, *put, 0, 0xFF);
+    *put = printing::put_pair(out, *put, 0, 0xFF);
     card.place
 }
 
@@ -145,8 +145,8 @@ pub fn refuse(who: u8, out: &mut [u8], put: &mut usize)
         → Answers C asked (now (out .entry)) (now (put .entry)) (C .place) (now (out .exit)) (now (put .exit))) ⌝ }
 {
     if who == ABOVE_3 {
-        *put = answers::put_refused(out, *put, Refusal::BadChannel);
+        *put = printing::put_refused(out, *put, Refusal::BadChannel);
         return;
     }
-    *put = answers::put_refused(out, *put, Refusal::BadLine);
+    *put = printing::put_refused(out, *put, Refusal::BadLine);
 }

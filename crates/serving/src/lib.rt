@@ -45,7 +45,7 @@ fn goes_on(piece: &[u8], at: usize, out: &[u8], put: usize) -> bool
     ensures { λ r. ⌜ r ≡ (ltb at (length (now (piece .entry))) && leb 79 (length (now (out .entry)) - put)) ⌝ }
 {
     if at < piece.len() {
-        return answers::LONGEST <= out.len() - put;
+        return printing::LONGEST <= out.len() - put;
     }
     false
 }

@@ -18,7 +18,7 @@ pub struct Told {
 fn tell_refusal(refusal: Refusal) -> Told
     ensures { λ r. ⌜ r ≡ laid (refusalNumbers refusal) ⌝ }
 {
-    let number = answers::refusal_number(refusal) as usize;
+    let number = printing::refusal_number(refusal) as usize;
     match refusal {
         Refusal::BadField(field) => Told {
             refusal: number,
@@ -51,7 +51,7 @@ pub fn tell(answer: Answer) -> Told
 {
     match answer {
         Answer::Refused(refusal) => tell_refusal(refusal),
-        Answer::Fated(fate) => served(answers::fate_number(fate) as usize, 0, 0, 0),
+        Answer::Fated(fate) => served(printing::fate_number(fate) as usize, 0, 0, 0),
         Answer::Handed(characters, flagged, bytes) => served(characters, flagged, bytes, 0),
         Answer::Took(taken) => served(taken, 0, 0, 0),
         Answer::Silent => served(0, 0, 0, 0),

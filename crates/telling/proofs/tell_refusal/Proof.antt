@@ -1,6 +1,6 @@
 use mathlib.Core.Path.{ap}
 use Rattle.paper.specs.Numbers.{refusalNumbers}
-use Rattle.answers.proofs.Laws.{alone}
+use Rattle.printing.proofs.Laws.{alone}
 use Rattle.telling.proofs.Laws.{followed}
 use borrow.Author.Needs.{needs}
 use Rattle.telling.proofs.tell_refusal.Statement.{statement}

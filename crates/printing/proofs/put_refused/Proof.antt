@@ -1,10 +1,10 @@
 use native.Mathlib.Omega.{arith}
 use mathlib.Core.Path.{ap}
 use Rattle.paper.specs.Numbers.{refusalNumbers}
-use Rattle.answers.proofs.Laws.{refused, alone}
+use Rattle.printing.proofs.Laws.{refused, alone}
 use borrow.Author.Needs.{needs}
-use Rattle.answers.proofs.put_refused.Statement.{statement}
-use Rattle.answers.proofs.put_refused.Tie as tie
+use Rattle.printing.proofs.put_refused.Statement.{statement}
+use Rattle.printing.proofs.put_refused.Tie as tie
 
 refusal-number-requires : tie.Need-refusal-number-requires
 refusal-number-requires c κs = search needs

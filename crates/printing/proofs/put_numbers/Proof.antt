@@ -1,9 +1,9 @@
 use native.Mathlib.Omega.{arith}
 use Rattle.paper.specs.Frames.{newline}
-use Rattle.answers.proofs.Laws.{wrote-then, wrote-one, length-hexadecimal}
+use Rattle.printing.proofs.Laws.{wrote-then, wrote-one, length-hexadecimal}
 use borrow.Author.Needs.{needs}
-use Rattle.answers.proofs.put_numbers.Statement.{statement}
-use Rattle.answers.proofs.put_numbers.Tie as tie
+use Rattle.printing.proofs.put_numbers.Statement.{statement}
+use Rattle.printing.proofs.put_numbers.Tie as tie
 
 put-bytes-requires : tie.Need-put-bytes-requires
 put-bytes-requires c κs = search needs

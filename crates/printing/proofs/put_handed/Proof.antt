@@ -1,9 +1,9 @@
 use native.Mathlib.Omega.{arith}
 use lib.ListN.{length-take}
-use Rattle.answers.proofs.Laws.{wrote-then}
+use Rattle.printing.proofs.Laws.{wrote-then}
 use borrow.Author.Needs.{needs}
-use Rattle.answers.proofs.put_handed.Statement.{statement}
-use Rattle.answers.proofs.put_handed.Tie as tie
+use Rattle.printing.proofs.put_handed.Statement.{statement}
+use Rattle.printing.proofs.put_handed.Tie as tie
 
 cast-t9 : tie.Need-cast-t9
 cast-t9 c = search needs

@@ -1,6 +1,6 @@
 use borrow.Author.Needs.{needs}
-use Rattle.answers.proofs.put_shown.Statement.{statement}
-use Rattle.answers.proofs.put_shown.Tie as tie
+use Rattle.printing.proofs.put_shown.Statement.{statement}
+use Rattle.printing.proofs.put_shown.Tie as tie
 
 cast-t8 : tie.Need-cast-t8
 cast-t8 c = search needs
