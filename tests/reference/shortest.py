@@ -14,18 +14,19 @@ def shown(line, limit=200):
 
 
 def reduced(parts, still):
-    """Leaves out parts, in ever smaller runs, as long as what is left still shows it."""
-    size = len(parts) // 2
-    while size >= 1:
-        at = 0
+    """Leaves out parts, in ever smaller runs, as long as what is left still shows it: in the end each single one is needed."""
+    size = max(1, len(parts) // 2)
+    while True:
+        before, at = len(parts), 0
         while at < len(parts):
             fewer = parts[:at] + parts[at + size:]
             if still(fewer):
                 parts = fewer
             else:
                 at += size
-        size //= 2
-    return parts
+        if size == 1 and len(parts) == before:
+            return parts
+        size = max(1, size // 2)
 
 
 def shortest_trace(data, asked, answering):
