@@ -11,16 +11,17 @@ use borrow.Author.Tests.{ltb-false}
 use denote.Enum.Declared.{tagOf}
 use types.Run.{OneOf, miss}
 use Rattle.paper.specs.Given.{Given}
-use Rattle.paper.specs.Settings.{twelve, badField}
+use Rattle.paper.specs.Settings.{cardSize, badField}
 use Rattle.paper.specs.Arrival.{NL}
 use Rattle.paper.specs.Queue.{Slot, oldest, itemsOf, overruns}
 use Rattle.paper.specs.Stream.{images}
-use Rattle.paper.specs.Transmitter.{Transmitter, transmitDepth, LineCall, load, turn, cts, special}
-use Rattle.paper.specs.Transmitter.{loaded, sendNext, held, turned, specialTaken, lineStep}
-use Rattle.paper.specs.Channel.{Channel, ChannelCall, arrive, read, settings, reset, state, line, noRoom, handedOver, settingsTaken, channelStep}
+use Rattle.paper.specs.Transmitter.{Transmitter, transmitDepth, TransmitCall, load, turn, setCts, askSpecial}
+use Rattle.paper.specs.Transmitter.{loaded, sendNext, held, turned, specialTaken, transmitStep}
+use Rattle.paper.specs.Channel.{Channel, ChannelCall, arrive, read, takeSettings, reset, state, transmit, noRoom, handedOver, settingsTaken, channelStep}
 use Rattle.paper.specs.Card.{Card, Call, on, pick, at, step}
 use Rattle.paper.specs.Bounds.{SoundChannel, Sound}
 use Rattle.paper.specs.Numbers.{numbers}
+use Rattle.paper.specs.Frames.{lentBytes}
 use Rattle.paper.specs.declared.Settings.{Settings}
 use Rattle.paper.specs.declared.Flags.{Flags}
 use Rattle.paper.specs.declared.Item.{Item}
@@ -30,7 +31,7 @@ use Rattle.paper.specs.declared.Answer.the-variants.{Refused, Fated, Handed, To
 use Rattle.paper.proofs.Answer as answers
 use Rattle.demands.proofs.Choices.{chosen, either}
 use Rattle.demands.proofs.Cases.{by-number, by-pick}
-use Rattle.answers.specs.Line.{secondNumber, Small}
+use Rattle.answers.specs.AnswerLine.{secondNumber, Small}
 
 -- WHICH ANSWER IT IS. A match that comes to its last arm has told the variant, counted from 0, to be one of those that no other arm names.
 
@@ -125,12 +126,12 @@ module _ (s : Settings) (f : Flags) (t : Transmitter) where
   special-fits n (some b) = tt
   special-fits n none = tt
 
-  line-fits : (c : LineCall) → Fits (lineStep s f t c)
-  unfolding lineStep loaded transmitDepth
-  line-fits (load l) = omega arith
-  line-fits turn = turn-fits (t .special)
-  line-fits (cts v) = either Fits (ltb 1 v) tt tt
-  line-fits (special n) = either Fits (ltb n 1 || ltb 4 n) tt (special-fits n (t .special))
+  transmit-fits : (c : TransmitCall) → Fits (transmitStep s f t c)
+  unfolding transmitStep loaded transmitDepth
+  transmit-fits (load l) = omega arith
+  transmit-fits turn = turn-fits (t .special)
+  transmit-fits (setCts v) = either Fits (ltb 1 v) tt tt
+  transmit-fits (askSpecial n) = either Fits (ltb n 1 || ltb 4 n) tt (special-fits n (t .special))
 
 settings-fit : (h : Channel Unit) (l : List ℕ) (bad : Option ℕ) → Fits (settingsTaken h l bad)
 settings-fit h l (some field) = tt
@@ -141,7 +142,7 @@ handed-fits h n place buffer few =
     let out = oldest n (h .queue) in
     let bytes = images (itemsOf out) in
     let taken : length out ≤ 12 = simp length-take (omega arith) in
-    let short : length bytes ≤ 36 = omega (arith, images-short (itemsOf out), length-map out (λ (x : Slot Unit). x .item)) in
+    let short : length bytes ≤ lentBytes cardSize = omega (arith, images-short (itemsOf out), length-map out (λ (x : Slot Unit). x .item)) in
     record {
       removed = omega arith;
       overrun = omega (arith, overruns-few out);
@@ -149,17 +150,17 @@ handed-fits h n place buffer few =
       inside = simp length-append (omega arith);
     }
 
-pub small : (h : Channel Unit) → SoundChannel twelve h → (call : ChannelCall)
-    → Small (channelStep twelve tt h call .answer) (channelStep twelve tt h call .lent)
+pub small : (h : Channel Unit) → SoundChannel cardSize h → (call : ChannelCall)
+    → Small (channelStep cardSize tt h call .answer) (channelStep cardSize tt h call .lent)
 unfolding channelStep transmitDepth
 small h s (arrive kind b) = either Fits (ltb 3 kind) tt tt
 small h s (read n place buffer) =
     chosen Fits (ltb 12 n) (λ many. tt) (λ few. either Fits (noRoom n place buffer) tt (handed-fits h n place buffer (ltb-false 12 n few)))
-small h s (settings l) = settings-fit h l (badField 12 l)
+small h s (takeSettings l) = settings-fit h l (badField (cardSize .most) l)
 small h s reset = tt
 small h s state = (omega (arith, s .waiting), omega (arith, s .sending))
-small h s (line c) = line-fits (h .settings) (h .flags) (h .transmitter) c
+small h s (transmit c) = transmit-fits (h .settings) (h .flags) (h .transmitter) c
 
-pub small-card : (K : Card Unit) → Sound twelve K → (call : Call) → Small (step twelve tt K call .answer) (step twelve tt K call .lent)
-small-card K s (on n call) = by-number twelve tt K Fits n call (λ above. tt) (λ few. small (at K n) (s .each n (omega arith)) call)
-small-card K s pick = by-pick twelve tt K Fits tt (λ n few. tt)
+pub small-card : (K : Card Unit) → Sound cardSize K → (call : Call) → Small (step cardSize tt K call .answer) (step cardSize tt K call .lent)
+small-card K s (on n call) = by-number cardSize tt K Fits n call (λ above. tt) (λ few. small (at K n) (s .each n (omega arith)) call)
+small-card K s pick = by-pick cardSize tt K Fits tt (λ n few. tt)

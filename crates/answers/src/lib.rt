@@ -1,10 +1,9 @@
 // An answer as a line: which of the lines of crate printing it is.
 ghost use mathlib.Core.Path.{_≡_};
 ghost use mathlib.Core.List.{[]};
-ghost use Prim.Native.Nat.{_+_, _≤_};
-ghost use lib.ListN.{length};
 ghost use Rattle.hexadecimal.specs.Written.{Wrote};
-ghost use Rattle.answers.specs.Line.{secondNumber, line, Small};
+ghost use Rattle.printing.specs.Printed.{Room};
+ghost use Rattle.answers.specs.AnswerLine.{secondNumber, answerLine, Small};
 use paper::Answer;
 
 // "fate"; or "taken"; or "00", by the last arm; or "the channel picked, FF for none": what follows 00 where it is one number.
@@ -23,8 +22,8 @@ fn second_number(answer: Answer) -> u8
 
 // The line of an answer to which nothing was lent, from a place on; answers the place behind it.
 fn put_plain(out: &mut [u8], at: usize, answer: Answer) -> usize
-    requires { ⌜ (at + 79 ≤ length (now out)) × Small answer [] ⌝ }
-    ensures { λ r. ⌜ Wrote (now (out .entry)) at (line answer []) (now (out .exit)) r ⌝ }
+    requires { ⌜ Room at (now out) × Small answer [] ⌝ }
+    ensures { λ r. ⌜ Wrote (now (out .entry)) at (answerLine answer []) (now (out .exit)) r ⌝ }
 {
     match answer {
         Answer::Refused(refusal) => printing::put_refused(out, at, refusal),
@@ -52,8 +51,8 @@ fn put_plain(out: &mut [u8], at: usize, answer: Answer) -> usize
 
 // The answer's line: what a read handed over stands in the lent bytes, and of any other answer nothing does.
 pub fn put_answer(out: &mut [u8], at: usize, answer: Answer, lent: &[u8]) -> usize
-    requires { ⌜ (at + 79 ≤ length (now out)) × Small answer (now lent) ⌝ }
-    ensures { λ r. ⌜ Wrote (now (out .entry)) at (line answer (now (lent .entry))) (now (out .exit)) r ⌝ }
+    requires { ⌜ Room at (now out) × Small answer (now lent) ⌝ }
+    ensures { λ r. ⌜ Wrote (now (out .entry)) at (answerLine answer (now (lent .entry))) (now (out .exit)) r ⌝ }
 {
     match answer {
         Answer::Handed(characters, flagged, bytes) => printing::put_handed(
@@ -73,8 +72,8 @@ pub fn put_answer(out: &mut [u8], at: usize, answer: Answer, lent: &[u8]) -> usi
 
 // An arrival's answer: a fate, but for a refusal.
 pub fn put_arrival(out: &mut [u8], at: usize, answer: Answer) -> usize
-    requires { ⌜ (at + 79 ≤ length (now out)) × Small answer [] ⌝ }
-    ensures { λ r. ⌜ Wrote (now (out .entry)) at (line answer []) (now (out .exit)) r ⌝ }
+    requires { ⌜ Room at (now out) × Small answer [] ⌝ }
+    ensures { λ r. ⌜ Wrote (now (out .entry)) at (answerLine answer []) (now (out .exit)) r ⌝ }
 {
     match answer {
         Answer::Fated(fate) => printing::put_pair(out, at, 0, printing::fate_number(fate)),
@@ -84,8 +83,8 @@ pub fn put_arrival(out: &mut [u8], at: usize, answer: Answer) -> usize
 
 // A load's answer: how many of the bytes it took.
 pub fn put_load(out: &mut [u8], at: usize, answer: Answer, loaded: &[u8]) -> usize
-    requires { ⌜ (at + 79 ≤ length (now out)) × Small answer (now loaded) ⌝ }
-    ensures { λ r. ⌜ Wrote (now (out .entry)) at (line answer (now (loaded .entry))) (now (out .exit)) r ⌝ }
+    requires { ⌜ Room at (now out) × Small answer (now loaded) ⌝ }
+    ensures { λ r. ⌜ Wrote (now (out .entry)) at (answerLine answer (now (loaded .entry))) (now (out .exit)) r ⌝ }
 {
     match answer {
         Answer::Took(taken) => printing::put_pair(out, at, 0, taken as u8),
@@ -95,8 +94,8 @@ pub fn put_load(out: &mut [u8], at: usize, answer: Answer, loaded: &[u8]) -> usi
 
 // A line turn's answer: nothing, or the byte sent.
 pub fn put_turn(out: &mut [u8], at: usize, answer: Answer) -> usize
-    requires { ⌜ (at + 79 ≤ length (now out)) × Small answer [] ⌝ }
-    ensures { λ r. ⌜ Wrote (now (out .entry)) at (line answer []) (now (out .exit)) r ⌝ }
+    requires { ⌜ Room at (now out) × Small answer [] ⌝ }
+    ensures { λ r. ⌜ Wrote (now (out .entry)) at (answerLine answer []) (now (out .exit)) r ⌝ }
 {
     match answer {
         Answer::Silent => printing::put_pair(out, at, 0, 0),
@@ -107,8 +106,8 @@ pub fn put_turn(out: &mut [u8], at: usize, answer: Answer) -> usize
 
 // The answer of CTS, special, reset and settings, which were lent bytes: done, but for a refusal.
 pub fn put_change(out: &mut [u8], at: usize, answer: Answer, bytes: &[u8]) -> usize
-    requires { ⌜ (at + 79 ≤ length (now out)) × Small answer (now bytes) ⌝ }
-    ensures { λ r. ⌜ Wrote (now (out .entry)) at (line answer (now (bytes .entry))) (now (out .exit)) r ⌝ }
+    requires { ⌜ Room at (now out) × Small answer (now bytes) ⌝ }
+    ensures { λ r. ⌜ Wrote (now (out .entry)) at (answerLine answer (now (bytes .entry))) (now (out .exit)) r ⌝ }
 {
     match answer {
         Answer::Done => printing::put_alone(out, at, 0),
@@ -118,8 +117,8 @@ pub fn put_change(out: &mut [u8], at: usize, answer: Answer, bytes: &[u8]) -> us
 
 // The state's answer: what is shown.
 pub fn put_state(out: &mut [u8], at: usize, answer: Answer) -> usize
-    requires { ⌜ (at + 79 ≤ length (now out)) × Small answer [] ⌝ }
-    ensures { λ r. ⌜ Wrote (now (out .entry)) at (line answer []) (now (out .exit)) r ⌝ }
+    requires { ⌜ Room at (now out) × Small answer [] ⌝ }
+    ensures { λ r. ⌜ Wrote (now (out .entry)) at (answerLine answer []) (now (out .exit)) r ⌝ }
 {
     match answer {
         Answer::Shown(waiting, sending, stopped, losses) => printing::put_shown(

@@ -1,2 +1,2 @@
-pub mod Asked
-pub mod Found
+pub mod Frame
+pub mod Leads

@@ -1,16 +1,27 @@
 // From a line of the input to its call.
 ghost use mathlib.Core.Path.{_≡_};
-ghost use Prim.Native.Nat.{_<_};
-ghost use lib.ListN.{length};
-ghost use Rattle.paper.specs.Settings.{twelve};
+ghost use Prim.Native.Nat.{_≤_, _<_};
+ghost use lib.ListN.{length, take, getD};
+ghost use Rattle.paper.specs.Settings.{Size};
 ghost use Rattle.paper.specs.Frames.{callOf};
-ghost use Rattle.hexadecimal.specs.Line.{digitTable, Fits};
-ghost use Rattle.asking.specs.Asked.{listed, addressOf, bytesIn};
-ghost use Rattle.asking.specs.Found.{Leads};
-use hexadecimal::Line;
+ghost use Rattle.hexadecimal.specs.LineSoFar.{digitTable, mostBytes, Fits};
+ghost use Rattle.asking.specs.Frame.{Means, rowFound, pickFound, bytesIn};
+ghost use Rattle.asking.specs.Leads.{Leads};
+use hexadecimal::LineSoFar;
+use paper::Asked;
 
-// How many bytes a frame has, by its first byte; 03 and 07 may have more.
-const LONG: [u8; 11] = [0, 4, 3, 2, 2, 3, 3, 2, 1, 2, 2];
+// What was found at a line's end.
+pub enum Found {
+    // what is asked of a channel from 0 to 3
+    OnChannel(Asked),
+    // a call on a channel above 3
+    BadChannel,
+    Pick,
+    // "an unknown first byte, or a length not listed below", or no bytes at all
+    NoFrame,
+    // the line has no end in this piece
+    NoLine,
+}
 
 fn wide(n: u8) -> usize
     ensures { λ r. ⌜ r ≡ n ⌝ }
@@ -18,69 +29,67 @@ fn wide(n: u8) -> usize
     n as usize
 }
 
-// "an unknown first byte, or a length not listed below": by a table, so that frames of all kinds take one way here.
-fn is_listed(first: u8, long: usize) -> bool
-    ensures { λ r. ⌜ r ≡ listed first long ⌝ }
+// A row of the table: what a frame of its first byte asks of a channel, if its length is right.
+fn row(right: bool, channel: u8, asked: Asked) -> Found
+    ensures { λ r. ⌜ r ≡ rowFound right channel asked ⌝ }
 {
-    if first == 0 {
-        return false;
+    if !right {
+        return Found::NoFrame;
     }
-    if 10 < first {
-        return false;
+    if 3 < channel {
+        return Found::BadChannel;
     }
-    let least = wide(LONG[first as usize]);
-    if long == least {
-        return true;
-    }
-    if long < least {
-        return false;
-    }
-    if first == 0x03 {
-        return true;
-    }
-    first == 0x07
+    Found::OnChannel(asked)
 }
 
-// Where a frame's call goes: the number of a channel, or one of these.
-pub const ABOVE_3: u8 = 4;
-
-pub const PICK: u8 = 5;
-
-const NO_CALL: u8 = 6;
-
-fn address(frame: &[u8]) -> u8
-    ensures { λ r. ⌜ r ≡ addressOf (callOf twelve (now (frame .entry))) ⌝ }
+// THE TABLE OF FRAMES, a row for each: "01 channel kind byte; 02 channel n (lent 36 bytes, place 0); ...". The frame stands in the first bytes, as
+// many as `long`.
+fn find(frame: &[u8], long: usize) -> Found
+    requires { ⌜ (length (now frame) ≡ mostBytes) × (long ≤ mostBytes) ⌝ }
+    ensures { λ r. ⌜ ((z : Size) → let f = take long (now (frame .entry)) in
+        Means z f (getD (now (frame .entry)) 1 0) r (callOf z f)) ⌝ }
 {
-    if frame.len() == 0 {
-        return NO_CALL;
+    if long == 0 {
+        return Found::NoFrame;
     }
     let first = frame[0];
-    if !is_listed(first, frame.len()) {
-        return NO_CALL;
+    match first {
+        0x01 => row(long == 4, frame[1], Asked::Arrive(frame[2], frame[3])),
+        0x02 => row(long == 3, frame[1], Asked::Read(frame[2])),
+        0x03 => row(2 <= long, frame[1], Asked::Load),
+        0x04 => row(long == 2, frame[1], Asked::Turn),
+        0x05 => row(long == 3, frame[1], Asked::SetCts(frame[2])),
+        0x06 => row(long == 3, frame[1], Asked::AskSpecial(frame[2])),
+        0x07 => row(2 <= long, frame[1], Asked::TakeSettings),
+        0x08 => pick(long == 1),
+        0x09 => row(long == 2, frame[1], Asked::Reset),
+        0x0A => row(long == 2, frame[1], Asked::State),
+        _ => Found::NoFrame,
     }
-    if first == 0x08 {
-        return PICK;
-    }
-    let channel = frame[1];
-    if 3 < channel {
-        return ABOVE_3;
-    }
-    channel
 }
 
-// The place behind a line or at the piece's end, and the line there; the bytes of the line's frame, and where its call goes.
+// "08 (pick)"
+fn pick(right: bool) -> Found
+    ensures { λ r. ⌜ r ≡ pickFound right ⌝ }
+{
+    if right {
+        return Found::Pick;
+    }
+    Found::NoFrame
+}
+
+// The place behind a line or at the piece's end, and the line there; how many bytes the line's frame has, the channel that it names, and what was
+// found.
 pub struct Next {
     pub at: usize,
-    pub line: Line,
+    pub line: LineSoFar,
     pub long: usize,
-    pub who: u8,
+    pub channel: usize,
+    pub found: Found,
 }
 
-// The line has no end in this piece.
-pub const NO_LINE: u8 = 7;
-
 // How many bytes a line's frame has: none where there is "an odd count of digits", nor where it is no frame, which counts 69.
-fn bytes_in(line: Line) -> usize
+fn bytes_in(line: LineSoFar) -> usize
     ensures { λ r. ⌜ r ≡ bytesIn line ⌝ }
 {
     if line.digits % 2 == 1 {
@@ -90,7 +99,13 @@ fn bytes_in(line: Line) -> usize
 }
 
 // Reads on to the end of a line, or of the piece.
-pub fn next_line(digits: &[u8], piece: &[u8], from: usize, held: Line, frame: &mut [u8]) -> Next
+pub fn next_line(
+    digits: &[u8],
+    piece: &[u8],
+    from: usize,
+    held: LineSoFar,
+    frame: &mut [u8],
+) -> Next
     requires { ⌜ now digits ≡ digitTable ⌝ }
     requires { ⌜ (from < length (now piece)) × Fits held (now frame) ⌝ }
     ensures { λ r. ⌜ Leads (now (piece .entry)) from held (now (frame .entry)) r (now (frame .exit)) ⌝ }
@@ -99,18 +114,20 @@ pub fn next_line(digits: &[u8], piece: &[u8], from: usize, held: Line, frame: &m
     let line = cut.line;
     if cut.ended {
         let long = bytes_in(line);
-        let who = address(&frame[..long]);
+        let found = find(frame, long);
         return Next {
             at: cut.at,
-            line: Line { digits: 0, last: 0 },
+            line: LineSoFar { digits: 0, last: 0 },
             long,
-            who,
+            channel: wide(frame[1]),
+            found,
         };
     }
     Next {
         at: cut.at,
         line,
         long: 0,
-        who: NO_LINE,
+        channel: 0,
+        found: Found::NoLine,
     }
 }

@@ -5,7 +5,7 @@ use mathlib.Core.Option.{Option, none, some}
 use mathlib.Core.Path.{_≡_, refl, ap, ap₂, sym, subst, _∙_}
 use Prim.Native.Nat.{ℕ, zero, suc, _+_, _%_, _≤_, _<_}
 use native.Mathlib.Omega.{arith}
-use lib.Dec.{leb, ltb}
+use lib.Dec.{leb, lit≤}
 use lib.ListN.{length, getD, set, length-map, List·getD-map}
 use lib.Seq.{set-getD}
 use borrow.Author.Tests.{lt-ltb, le-ltb}
@@ -14,6 +14,8 @@ use Rattle.paper.specs.Settings.{Size}
 use Rattle.paper.specs.Given as paper
 use Rattle.paper.specs.Given.{Given, refused}
 use Rattle.paper.specs.Channel.{ChannelCall, lent, fresh}
+use Rattle.paper.specs.Asked.{callWith}
+use Rattle.paper.specs.declared.Asked.{Asked}
 use Rattle.paper.specs.Card as model
 use Rattle.paper.specs.Card.{Call, on, pick, at, put, round, ready, firstReady, pickedAs, picked, step, freshCard}
 use Rattle.paper.specs.Bounds as bounds
@@ -27,26 +29,33 @@ use Rattle.channel.specs.declared.Answered as one
 use Rattle.channel.specs.Held.{channelOf, channelIn}
 use Rattle.channel.specs.Held as channel
 use Rattle.channel.specs.Promise as channel-promise
-use Rattle.channel.proofs.Laws.{channel-in}
+use Rattle.channel.proofs.Laws.{channel-in, lent-and-unlent}
 use Rattle.picking.specs.Look.{found}
 use Rattle.card.specs.declared.Card.{Card}
 use Rattle.card.specs.declared.Answered.{Answered}
-use Rattle.card.specs.Held.{cardOf, cardIn, Sound}
-use Rattle.card.specs.Promise.{given, answered, Promise}
+use Rattle.card.specs.Held.{sizeOf, cardOf, cardIn, Sound}
+use Rattle.card.specs.Promise.{given, answered, Promise, Calls, orFour, nextReady}
 
-channels-in : (places : ℕ) (l : List _) → map channelIn (map (channelOf places) l) ≡ l
-channels-in places [] = refl
-channels-in places (h ∷ l) = ap₂ (λ (x : _) (m : List _). x ∷ m) (channel-in places h) (channels-in places l)
+channels-in : (z : Size) (l : List _) → map channelIn (map (channelOf z) l) ≡ l
+channels-in z [] = refl
+channels-in z (h ∷ l) = ap₂ (λ (x : _) (m : List _). x ∷ m) (channel-in z h) (channels-in z l)
 
-pub card-in : (places : ℕ) (K : model.Card Unit) → cardIn (cardOf places K) ≡ K
+pub card-in : (z : Size) (K : model.Card Unit) → cardIn (cardOf z K) ≡ K
 unfolding cardIn cardOf
-card-in places K = rw channels-in
+card-in z K = rw channels-in
 
-pub sound-of : (places : ℕ) (z : Size) (K : model.Card Unit) → bounds.Sound z K → Sound places z (cardOf places K)
-sound-of places z K s = record { is = rw card-in; bounds = rw card-in s }
+-- the record of what a call leaves has the size of the record that it was called on, and so has each of its channels
+pub size-kept : (C : Card) (K : model.Card Unit) → sizeOf (cardOf (sizeOf C) K) ≡ sizeOf C
+size-kept C K = refl
 
-pub fresh-sound : (places : ℕ) (z : Size) → 1 ≤ z .most → Sound places z (cardOf places freshCard)
-fresh-sound places z most = sound-of places z freshCard (fresh-card z most)
+pub channel-size : (C : Card) (c : Channel) → channel.sizeOf c ≡ sizeOf C
+channel-size C c = refl
+
+pub sound-of : (z : Size) (K : model.Card Unit) → sizeOf (cardOf z K) ≡ z → bounds.Sound z K → Sound (cardOf z K)
+sound-of z K e s = record { is = rw (e, card-in); bounds = rw (e, card-in) s }
+
+pub fresh-sound : (z : Size) → sizeOf (cardOf z freshCard) ≡ z → 1 ≤ z .most → Sound (cardOf z freshCard)
+fresh-sound z e most = sound-of z freshCard e (fresh-card z most)
 
 -- an element, whatever would stand past the list's end
 getD-inside : {A : Type 0} (l : List A) (i : ℕ) (d e : A) → i < length l → getD l i d ≡ getD l i e
@@ -63,34 +72,50 @@ map-set f (x ∷ l) zero a = refl
 map-set f (x ∷ l) (suc i) a = ap (λ (m : List _). f x ∷ m) (map-set f l i a)
 
 -- whether the channel n of a card's record is ready; d is what would stand past the list's end
-abbrev pub mark : Channel → Card → ℕ → Bool
+abbrev mark : Channel → Card → ℕ → Bool
 mark d C n = channel-promise.atThreshold (getD (C .channels) n d)
 
-abbrev pub marks : Channel → Card → List Bool
+abbrev marks : Channel → Card → List Bool
 marks d C = mark d C 0 ∷ mark d C 1 ∷ mark d C 2 ∷ mark d C 3 ∷ []
 
--- marks that were asked one by one
-pub looked : (d : Channel) (C : Card) {r₀ r₁ r₂ r₃ : Bool} {n : ℕ} → r₀ ≡ mark d C 0 → r₁ ≡ mark d C 1 → r₂ ≡ mark d C 2 → r₃ ≡ mark d C 3
-    → n ≡ found (r₀ ∷ r₁ ∷ r₂ ∷ r₃ ∷ []) (round (C .place)) → found (marks d C) (round (C .place)) ≡ n
-looked d C e₀ e₁ e₂ e₃ e = sym (rw (e₀, e₁, e₂, e₃) at e)
-
--- the channel that a search of marks finds, 4 for none, as the paper has it
-abbrev named : ℕ → Option ℕ
-named n = if ltb n 4 then some n else none
-
-name : (t : Bool) (n m : ℕ) (o : Option ℕ) → n < 4 → o ≡ named m → (if t then some n else o) ≡ named (if t then n else m)
-name true n m o small e = rw (lt-ltb n 4 small)
-name false n m o small e = e
-
+-- a search of marks finds the channel that the paper does, 4 for none
 searched : (K : model.Card Unit) (marks : List Bool) → ((n : ℕ) → n < 4 → getD marks n false ≡ ready K n)
-    → (p k count : ℕ) → firstReady K (ahead p k count) ≡ named (found marks (ahead p k count))
+    → (p k count : ℕ) → found marks (ahead p k count) ≡ orFour (firstReady K (ahead p k count))
 unfolding found
 searched K marks same p k zero = refl
 searched K marks same p k (suc m) =
     let n = (p + suc k) % 4 in
-    rw (same n (omega arith)) (name (ready K n) n _ _ (omega arith) (searched K marks same p (suc k) m))
+    rw (same n (omega arith)) (go (ready K n) n (firstReady K (ahead p (suc k) m)) (searched K marks same p (suc k) m))
+  where
+    go : (t : Bool) (n : ℕ) {l : ℕ} (o : Option ℕ) → l ≡ orFour o → (if t then n else l) ≡ orFour (if t then some n else o)
+    go true n o e = refl
+    go false n o e = e
 
-module _ (places : ℕ) (z : Size) (C : Card) (s : Sound places z C) where
+-- who is named is one of the four; 4 says that there is none
+data Named : Option ℕ → ℕ → Type 0 where
+  somebody : (n : ℕ) → n < 4 → Named (some n) n
+  nobody : Named none 4
+
+named-ahead : (K : model.Card Unit) (p k count : ℕ) → Named (firstReady K (ahead p k count)) (orFour (firstReady K (ahead p k count)))
+named-ahead K p k zero = nobody
+named-ahead K p k (suc m) = go (ready K ((p + suc k) % 4)) (firstReady K (ahead p (suc k) m)) (named-ahead K p (suc k) m)
+  where
+    n : ℕ
+    n = (p + suc k) % 4
+
+    go : (t : Bool) (o : Option ℕ) → Named o (orFour o) → Named (if t then some n else o) (orFour (if t then some n else o))
+    go true o h = somebody n (omega arith)
+    go false o h = h
+
+is-named : {o : Option ℕ} {n : ℕ} → Named o n → n < 4 → o ≡ some n
+is-named (somebody n h) small = refl
+is-named nobody small = absurd (omega arith)
+
+is-nobody : {o : Option ℕ} {n : ℕ} → Named o n → 4 ≤ n → o ≡ none
+is-nobody (somebody n h) beyond = absurd (omega arith)
+is-nobody nobody beyond = refl
+
+module _ (C : Card) (s : Sound C) where
   pub four : length (C .channels) ≡ 4
   unfolding cardIn
   four = sym (length-map (C .channels) channelIn) ∙ s .bounds .four
@@ -99,7 +124,7 @@ module _ (places : ℕ) (z : Size) (C : Card) (s : Sound places z C) where
   unfolding cardIn
   place-small = s .bounds .place
 
-  channels-of : C .channels ≡ map (channelOf places) (map channelIn (C .channels))
+  channels-of : C .channels ≡ map (channelOf (sizeOf C)) (map channelIn (C .channels))
   unfolding cardIn cardOf
   channels-of = ap (λ (x : Card). x .channels) (s .is)
 
@@ -111,52 +136,42 @@ module _ (places : ℕ) (z : Size) (C : Card) (s : Sound places z C) where
     unfolding cardIn
     at-channel = getD-map channelIn (C .channels) n d fresh inside
 
-    pub channel-sound : channel.Sound places z (getD (C .channels) n d)
+    pub channel-sound : channel.Sound (getD (C .channels) n d)
     unfolding cardIn
     channel-sound =
         record {
-          is = ap (λ (l : List Channel). getD l n d) channels-of ∙ getD-map (channelOf places) (map channelIn (C .channels)) n fresh d
+          is = ap (λ (l : List Channel). getD l n d) channels-of ∙ getD-map (channelOf (sizeOf C)) (map channelIn (C .channels)) n fresh d
               (rw length-map inside)
-              ∙ ap (channelOf places) at-channel;
+              ∙ ap (channelOf (sizeOf C)) at-channel;
           bounds = rw (← at-channel) (s .bounds .each n small);
         }
 
   -- THE SEARCH OF A PICK, over the marks of the record's four channels
 
   -- whether the channel's record says that it is ready
-  pub ready-is : (n : ℕ) (d : Channel) → n < 4 → ready (cardIn C) n ≡ channel-promise.atThreshold (getD (C .channels) n d)
+  ready-is : (n : ℕ) (d : Channel) → n < 4 → channel-promise.atThreshold (getD (C .channels) n d) ≡ ready (cardIn C) n
   unfolding channel-promise.atThreshold
-  ready-is n d small = ap (λ h. leb (h .settings .threshold) (length (h .queue .slots))) (at-channel n d small)
+  ready-is n d small = sym (ap (λ h. leb (h .settings .threshold) (length (h .queue .slots))) (at-channel n d small))
 
-  module _ (d : Channel) where
-    mark-is : (n : ℕ) → n < 4 → getD (marks d C) n false ≡ ready (cardIn C) n
-    mark-is zero small = sym (ready-is zero d small)
-    mark-is (suc zero) small = sym (ready-is 1 d small)
-    mark-is (suc (suc zero)) small = sym (ready-is 2 d small)
-    mark-is (suc (suc (suc zero))) small = sym (ready-is 3 d small)
-    mark-is (suc (suc (suc (suc n)))) small = absurd (omega arith)
+  mark-is : (d : Channel) (n : ℕ) → n < 4 → getD (marks d C) n false ≡ ready (cardIn C) n
+  mark-is d zero small = ready-is zero d small
+  mark-is d (suc zero) small = ready-is 1 d small
+  mark-is d (suc (suc zero)) small = ready-is 2 d small
+  mark-is d (suc (suc (suc zero))) small = ready-is 3 d small
+  mark-is d (suc (suc (suc (suc n)))) small = absurd (omega arith)
 
-    first-is : firstReady (cardIn C) (round (C .place)) ≡ named (found (marks d C) (round (C .place)))
-    first-is = searched (cardIn C) (marks d C) mark-is (C .place) 0 4
+  -- marks that were asked one by one
+  pub looked : (d : Channel) {r₀ r₁ r₂ r₃ : Bool} {n : ℕ} → r₀ ≡ mark d C 0 → r₁ ≡ mark d C 1 → r₂ ≡ mark d C 2 → r₃ ≡ mark d C 3
+      → n ≡ found (r₀ ∷ r₁ ∷ r₂ ∷ r₃ ∷ []) (round (C .place)) → n ≡ nextReady C
+  unfolding nextReady
+  looked d e₀ e₁ e₂ e₃ e = (rw (e₀, e₁, e₂, e₃) at e) ∙ searched (cardIn C) (marks d C) (mark-is d) (C .place) 0 4
 
-    pub first-found : (n : ℕ) → found (marks d C) (round (C .place)) ≡ n → n < 4 → firstReady (cardIn C) (round (C .place)) ≡ some n
-    first-found n e small = first-is ∙ ap named e ∙ rw (lt-ltb n 4 small)
-
-    pub none-found : (n : ℕ) → found (marks d C) (round (C .place)) ≡ n → 4 ≤ n → firstReady (cardIn C) (round (C .place)) ≡ none
-    none-found n e beyond = first-is ∙ ap named e ∙ rw (le-ltb n 4 beyond)
-
-    -- so the paper's step names the channel that was found, or none
-    pub step-names : (n : ℕ) → found (marks d C) (round (C .place)) ≡ n → n < 4
-        → step z tt (cardIn C) pick ≡ paper.given (Picked n) (cardIn (record { channels = C .channels; place = n })) []
-    unfolding step picked cardIn
-    step-names n e small = ap (pickedAs (cardIn C)) (first-found n e small)
-
-    pub step-names-none : (n : ℕ) → found (marks d C) (round (C .place)) ≡ n → 4 ≤ n → step z tt (cardIn C) pick ≡ paper.given NoneReady (cardIn C) []
-    unfolding step picked cardIn
-    step-names-none n e beyond = ap (pickedAs (cardIn C)) (none-found n e beyond)
+  named : (n : ℕ) → n ≡ nextReady C → Named (firstReady (cardIn C) (round (C .place))) n
+  unfolding nextReady
+  named n e = rw e (named-ahead (cardIn C) (C .place) 0 4)
 
   -- and the record with its new place is sound
-  pub placed-sound : (n : ℕ) → n < 4 → Sound places z (record { channels = C .channels; place = n })
+  pub placed-sound : (n : ℕ) → n < 4 → Sound (record { channels = C .channels; place = n })
   unfolding cardIn cardOf
   placed-sound n small =
       record {
@@ -164,75 +179,73 @@ module _ (places : ℕ) (z : Size) (C : Card) (s : Sound places z C) where
         bounds = record { four = s .bounds .four; each = s .bounds .each; place = small };
       }
 
-  module _ (most : 1 ≤ z .most) where
-    -- what the step gives is its answer, its record and its bytes; that the record is sound follows
-    pub promised : (call : Call) (g : Given (model.Card Unit)) → given z C call ≡ g → (r : Answered) → r ≡ answered places g
-        → Promise places z C call r (g .lent)
-    unfolding answered given
-    promised call g e r k =
-        record {
-          gives = rw e k;
-          leaves = rw e;
-          says = rw (k, e);
-          sound = rw (k, ← e) (sound-of places z _ (kept z most tt (cardIn C) call (s .bounds)));
-        }
+  most-at-least-one : 1 ≤ sizeOf C .most
+  most-at-least-one = lit≤ tt
 
-    -- "1: channel above 3", and "a refusal changes nothing"
-    pub refuses : (n : ℕ) (call : ChannelCall) → 3 < n → Promise places z C (on n call) (record { answer = Refused BadChannel; card = C }) (lent call)
-    unfolding answered given step
-    refuses n call above =
-        promised (on n call) (refused BadChannel (cardIn C) (lent call)) (rw (lt-ltb 3 n above)) _
-        (ap (λ (x : Card). record { answer = Refused BadChannel; card = x }) (s .is))
+  -- what the step gives is its answer, its record and its bytes; that the record is sound follows
+  pub promised : (call : Call) (g : Given (model.Card Unit)) → given C call ≡ g → (r : Answered) → r ≡ answered C g
+      → Promise C call r (g .lent)
+  unfolding answered given
+  promised call g e r k =
+      record {
+        gives = rw e k;
+        leaves = rw e;
+        says = rw (k, e);
+        sound = rw (k, ← e) (sound-of (sizeOf C) (given C call .next) (size-kept C (given C call .next)) (kept (sizeOf C) most-at-least-one tt (cardIn C) call (s .bounds)));
+      }
 
-    -- a channel's call on a card
-    pub serves : (n : ℕ) (d : Channel) (call : ChannelCall) (r : one.Answered) (l : List ℕ) → n ≤ 3
-        → channel-promise.Promise places z (getD (C .channels) n d) call r l
-        → Promise places z C (on n call) (record {
-          answer = r .answer;
-          card = record {
-            channels = set (C .channels) n (r .channel);
-            place = C .place;
-          };
-        }) l
-    unfolding answered given step cardOf cardIn channel-promise.answered channel-promise.given
-    serves n d call r l small p =
-        let x = getD (C .channels) n d in
-        let g = channel-promise.given z x call in
-        let e : given z C (on n call) ≡ put (cardIn C) n g = rw (le-ltb 3 n small, at-channel n d (omega arith)) in
-        let k : set (C .channels) n (channelOf places (g .next)) ≡ map (channelOf places) (set (map channelIn (C .channels)) n (g .next)) =
-        ap (λ (m : List Channel). set m n (channelOf places (g .next))) channels-of ∙ sym
-        (map-set (channelOf places) (map channelIn (C .channels)) n (g .next)) in
-        rw (p .leaves) (promised (on n call) (put (cardIn C) n g) e _
-        (rw (p .gives) (ap (λ (m : List Channel). record { answer = g .answer; card = record { channels = m; place = C .place } }) k)))
+  -- "1: channel above 3", and "a refusal changes nothing"
+  pub refuses : (n : ℕ) (call : ChannelCall) → 3 < n → Promise C (on n call) (record { answer = Refused BadChannel; card = C }) (lent call)
+  unfolding answered given step
+  refuses n call above =
+      promised (on n call) (refused BadChannel (cardIn C) (lent call)) (rw (lt-ltb 3 n above)) _
+      (ap (λ (x : Card). record { answer = Refused BadChannel; card = x }) (s .is))
 
-    -- a call that leaves its channel as it is
-    pub serves-unchanged : (n : ℕ) (d : Channel) (call : ChannelCall) (a : Answer) (l : List ℕ) → n ≤ 3
-        → channel-promise.Promise places z (getD (C .channels) n d) call (record { answer = a; channel = getD (C .channels) n d }) l
-        → Promise places z C (on n call) (record { answer = a; card = C }) l
-    serves-unchanged n d call a l small p =
-        subst (λ (m : List Channel). Promise places z C (on n call) (record { answer = a; card = record { channels = m; place = C .place } }) l)
-        (set-getD (C .channels) n d) (serves n d call _ l small p)
+  -- a channel's call on a card
+  pub serves : (n : ℕ) (d : Channel) (call : ChannelCall) (r : one.Answered) (l : List ℕ) → n ≤ 3
+      → channel-promise.Promise (getD (C .channels) n d) call r l
+      → Promise C (on n call) (record {
+        answer = r .answer;
+        card = record {
+          channels = set (C .channels) n (r .channel);
+          place = C .place;
+        };
+      }) l
+  unfolding answered given step cardOf cardIn channel-promise.answered channel-promise.given
+  serves n d call r l small p =
+      let x = getD (C .channels) n d in
+      let g = channel-promise.given x call in
+      let e : given C (on n call) ≡ put (cardIn C) n g = rw (le-ltb 3 n small, at-channel n d (omega arith)) in
+      let k : set (C .channels) n (channelOf (sizeOf C) (g .next)) ≡ map (channelOf (sizeOf C)) (set (map channelIn (C .channels)) n (g .next)) =
+      ap (λ (m : List Channel). set m n (channelOf (sizeOf C) (g .next))) channels-of ∙ sym
+      (map-set (channelOf (sizeOf C)) (map channelIn (C .channels)) n (g .next)) in
+      rw (p .leaves) (promised (on n call) (put (cardIn C) n g) e _
+      (rw (p .gives) (ap (λ (m : List Channel). record { answer = g .answer; card = record { channels = m; place = C .place } }) k)))
 
-    -- THE PICK
+  -- by what is asked of it
+  pub calls : (n : ℕ) (d : Channel) (asked : Asked) (bytes : List ℕ) (place : ℕ) (r : one.Answered) (after : List ℕ) → n ≤ 3
+      → channel-promise.Calls (getD (C .channels) n d) asked bytes place r after
+      → Calls C n asked bytes place (record { answer = r .answer; card = record { channels = set (C .channels) n (r .channel); place = C .place } }) after
+  calls n d asked bytes place r after small p =
+      record { lent = p .lent; kept = serves n d (callWith asked bytes place) r (p .lent) small (p .kept); at-hand = p .at-hand }
 
-    pub names : (n : ℕ) → firstReady (cardIn C) (round (C .place)) ≡ some n
-        → Promise places z C pick (record { answer = Picked n; card = record { channels = C .channels; place = n } }) []
-    unfolding answered given step picked cardOf cardIn
-    names n e =
-        promised pick (pickedAs (cardIn C) (some n)) (rw e) _
-        (ap (λ (l : List Channel). record { answer = Picked n; card = record { channels = l; place = n } }) channels-of)
+  pub refuses-asked : (n : ℕ) (asked : Asked) (bytes : List ℕ) (place : ℕ) → 3 < n
+      → Calls C n asked bytes place (record { answer = Refused BadChannel; card = C }) bytes
+  refuses-asked n asked bytes place above =
+      let call = callWith asked bytes place in
+      record { lent = lent call; kept = refuses n call above; at-hand = sym (lent-and-unlent asked bytes place) }
 
-    pub names-none : firstReady (cardIn C) (round (C .place)) ≡ none → Promise places z C pick (record { answer = NoneReady; card = C }) []
-    unfolding answered given step picked cardIn
-    names-none e =
-        promised pick (pickedAs (cardIn C) none) (ap (pickedAs (cardIn C)) e) _ (ap (λ (x : Card). record { answer = NoneReady; card = x }) (s .is))
+  -- THE PICK
 
-    -- a pick by marks that were asked one by one
-    module _ (d : Channel) {r₀ r₁ r₂ r₃ : Bool} {n : ℕ}
-        (e₀ : r₀ ≡ mark d C 0) (e₁ : r₁ ≡ mark d C 1) (e₂ : r₂ ≡ mark d C 2) (e₃ : r₃ ≡ mark d C 3)
-        (e : n ≡ found (r₀ ∷ r₁ ∷ r₂ ∷ r₃ ∷ []) (round (C .place))) where
-      pub picks : n < 4 → Promise places z C pick (record { answer = Picked n; card = record { channels = C .channels; place = n } }) []
-      picks small = names n (first-found d n (looked d C e₀ e₁ e₂ e₃ e) small)
+  pub picks : (n : ℕ) → n ≡ nextReady C → n < 4
+      → Promise C pick (record { answer = Picked n; card = record { channels = C .channels; place = n } }) []
+  unfolding answered given step picked cardOf cardIn
+  picks n e small =
+      promised pick (pickedAs (cardIn C) (some n)) (ap (pickedAs (cardIn C)) (is-named (named n e) small)) _
+      (ap (λ (l : List Channel). record { answer = Picked n; card = record { channels = l; place = n } }) channels-of)
 
-      pub picks-none : 4 ≤ n → Promise places z C pick (record { answer = NoneReady; card = C }) []
-      picks-none beyond = names-none (none-found d n (looked d C e₀ e₁ e₂ e₃ e) beyond)
+  pub picks-none : (n : ℕ) → n ≡ nextReady C → 4 ≤ n → Promise C pick (record { answer = NoneReady; card = C }) []
+  unfolding answered given step picked cardIn
+  picks-none n e beyond =
+      promised pick (pickedAs (cardIn C) none) (ap (pickedAs (cardIn C)) (is-nobody (named n e) beyond)) _
+      (ap (λ (x : Card). record { answer = NoneReady; card = x }) (s .is))

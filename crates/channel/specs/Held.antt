@@ -1,21 +1,23 @@
 -- The record that holds the paper's channel, and the channel that a record holds.
 use mathlib.Core.Path.{_≡_}
-use Prim.Native.Nat.{ℕ}
-use Rattle.paper.specs.Settings.{Size}
-use Rattle.paper.specs.Transmitter.{transmitDepth}
+use Rattle.paper.specs.Settings.{Size, cardSize}
 use Rattle.paper.specs.Channel as model
 use Rattle.paper.specs.Bounds.{SoundChannel}
 use Rattle.queue.specs.Held.{queueOf, queueIn}
 use Rattle.transmitter.specs.Held.{transmitterOf, transmitterIn}
 use Rattle.channel.specs.declared.Channel.{Channel}
 
-unfoldable pub channelOf : (places : ℕ) → model.Channel Unit → Channel
-channelOf places h =
+-- the size of a channel's record: the card's own
+abbrev pub sizeOf : Channel → Size
+sizeOf c = cardSize
+
+unfoldable pub channelOf : Size → model.Channel Unit → Channel
+channelOf z h =
     record {
       settings = h .settings;
       flags = h .flags;
-      queue = queueOf places (h .queue);
-      transmitter = transmitterOf transmitDepth (h .transmitter);
+      queue = queueOf (z .depth) (h .queue);
+      transmitter = transmitterOf (h .transmitter);
     }
 
 unfoldable pub channelIn : Channel → model.Channel Unit
@@ -28,6 +30,6 @@ channelIn c =
     }
 
 -- "A card or record here means one that a fresh start and these calls can give": the record of the channel that it holds, within the paper's bounds
-pub record Sound (places : ℕ) (z : Size) (c : Channel) : Type 0 where
-  pub is : c ≡ channelOf places (channelIn c)
-  pub bounds : SoundChannel z (channelIn c)
+pub record Sound (c : Channel) : Type 0 where
+  pub is : c ≡ channelOf (sizeOf c) (channelIn c)
+  pub bounds : SoundChannel (sizeOf c) (channelIn c)

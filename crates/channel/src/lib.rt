@@ -1,14 +1,14 @@
 // A channel's record by value, and its calls: each gives what the paper's step gives on the channel that the record holds.
 ghost use mathlib.Core.List.{[]};
 ghost use mathlib.Core.Path.{_≡_};
-ghost use Rattle.paper.specs.Settings.{freshSettings, twelve};
+ghost use Rattle.paper.specs.Settings.{freshSettings, cardSize};
 ghost use Rattle.paper.specs.Channel as calls;
 ghost use Rattle.paper.specs.Transmitter as lines;
-ghost use Rattle.queue.specs.Held.{depth};
 ghost use Rattle.channel.specs.Held.{Sound, channelOf};
-ghost use Rattle.channel.specs.Promise.{Promise, atThreshold};
+ghost use Rattle.channel.specs.Promise.{Promise, Calls, atThreshold};
 use judging::Judged;
 use paper::Answer;
+use paper::Asked;
 use paper::Flags;
 use paper::Refusal;
 use paper::Settings;
@@ -34,7 +34,7 @@ impl Channel {
     pub const DEPTH: usize = Queue::DEPTH;
 
     // The most that a read asks for and a threshold names.
-    pub const MOST: u8 = 12;
+    pub const MOST: u8 = paper::MOST;
 
     // "1, 1, 0, 0, 0, 0, 0, 1, 0, 0, then hex 11 13 00 00 16"
     pub fn fresh_settings() -> Settings
@@ -61,7 +61,7 @@ impl Channel {
 
     // "queues empty, nothing pending, transmitter running, CTS 0, loss count 0"
     pub fn fresh() -> Channel
-        ensures { λ r. ⌜ (r ≡ channelOf depth calls.fresh) × Sound depth twelve r ⌝ }
+        ensures { λ r. ⌜ (r ≡ channelOf cardSize calls.fresh) × Sound r ⌝ }
     {
         Channel {
             settings: Channel::fresh_settings(),
@@ -86,8 +86,8 @@ impl Channel {
 
     // One arrival. Refusal 2: kind above 3.
     pub fn arrive(mut self, kind: u8, byte: u8) -> Answered
-        requires { ⌜ Sound depth twelve self ⌝ }
-        ensures { λ r. ⌜ Promise depth twelve self (calls.arrive kind byte) r [] ⌝ }
+        requires { ⌜ Sound self ⌝ }
+        ensures { λ r. ⌜ Promise self (calls.arrive kind byte) r [] ⌝ }
     {
         if 3 < kind {
             return self.refuse(Refusal::BadKind);
@@ -112,8 +112,8 @@ impl Channel {
     // "Read n characters, n from 0 to 12". Refusals: 3 more than 12 asked, 4 fewer than 3n bytes from the place to the buffer's end, or the place
     // beyond the end.
     pub fn read(mut self, n: usize, buffer: &mut [u8], place: usize) -> Answered
-        requires { ⌜ Sound depth twelve self ⌝ }
-        ensures { λ r. ⌜ Promise depth twelve self (calls.read n place (now (buffer .entry))) r (now (buffer .exit)) ⌝ }
+        requires { ⌜ Sound self ⌝ }
+        ensures { λ r. ⌜ Promise self (calls.read n place (now (buffer .entry))) r (now (buffer .exit)) ⌝ }
     {
         if (Channel::MOST as usize) < n {
             return self.refuse(Refusal::TooMany);
@@ -136,8 +136,8 @@ impl Channel {
 
     // Settings. Refusal 5: not 15 bytes (field 0) or the first bad field.
     pub fn take_settings(mut self, bytes: &[u8]) -> Answered
-        requires { ⌜ Sound depth twelve self ⌝ }
-        ensures { λ r. ⌜ Promise depth twelve self (calls.settings (now (bytes .entry))) r (now (bytes .entry)) ⌝ }
+        requires { ⌜ Sound self ⌝ }
+        ensures { λ r. ⌜ Promise self (calls.takeSettings (now (bytes .entry))) r (now (bytes .entry)) ⌝ }
     {
         let judged = judging::judge(bytes, Channel::MOST);
         match judged {
@@ -159,8 +159,8 @@ impl Channel {
 
     // "Reset makes one channel fresh."
     pub fn reset(self) -> Answered
-        requires { ⌜ Sound depth twelve self ⌝ }
-        ensures { λ r. ⌜ Promise depth twelve self calls.reset r [] ⌝ }
+        requires { ⌜ Sound self ⌝ }
+        ensures { λ r. ⌜ Promise self calls.reset r [] ⌝ }
     {
         Answered {
             answer: Answer::Done,
@@ -170,8 +170,8 @@ impl Channel {
 
     // "State: waiting items, bytes in the transmit queue ..., stopped (1) or running (0), loss count." The channel stays as it is.
     pub fn state(self) -> Answer
-        requires { ⌜ Sound depth twelve self ⌝ }
-        ensures { λ r. ⌜ Promise depth twelve self calls.state (record { answer = r; channel = self }) [] ⌝ }
+        requires { ⌜ Sound self ⌝ }
+        ensures { λ r. ⌜ Promise self calls.state (record { answer = r; channel = self }) [] ⌝ }
     {
         Answer::Shown(
             self.queue.count,
@@ -181,9 +181,30 @@ impl Channel {
         )
     }
 
+    // Any of these calls, by what is asked. The bytes at hand are lent to the calls that take some; the place is a read's.
+    pub fn call(self, asked: Asked, bytes: &mut [u8], place: usize) -> Answered
+        requires { ⌜ Sound self ⌝ }
+        ensures { λ r. ⌜ Calls self asked (now (bytes .entry)) place r (now (bytes .exit)) ⌝ }
+    {
+        match asked {
+            Asked::Arrive(kind, byte) => self.arrive(kind, byte),
+            Asked::Read(n) => self.read(n as usize, bytes, place),
+            Asked::TakeSettings => self.take_settings(bytes),
+            Asked::Reset => self.reset(),
+            Asked::State => Answered {
+                answer: self.state(),
+                channel: self,
+            },
+            Asked::Load => self.load(bytes),
+            Asked::Turn => self.turn(),
+            Asked::SetCts(value) => self.set_cts(value),
+            Asked::AskSpecial(number) => self.ask_special(number),
+        }
+    }
+
     // "waiting items reach its threshold"
     pub fn ready(self) -> bool
-        requires { ⌜ Sound depth twelve self ⌝ }
+        requires { ⌜ Sound self ⌝ }
         ensures { λ r. ⌜ r ≡ atThreshold self ⌝ }
     {
         let threshold = self.settings.threshold as usize;
@@ -220,8 +241,8 @@ impl Channel {
 
     // "Load: takes the first min(length, room) bytes; answers that number."
     pub fn load(self, bytes: &[u8]) -> Answered
-        requires { ⌜ Sound depth twelve self ⌝ }
-        ensures { λ r. ⌜ Promise depth twelve self (calls.line (lines.load (now (bytes .entry)))) r (now (bytes .entry)) ⌝ }
+        requires { ⌜ Sound self ⌝ }
+        ensures { λ r. ⌜ Promise self (calls.transmit (lines.load (now (bytes .entry)))) r (now (bytes .entry)) ⌝ }
     {
         let transmitter = self.transmitter;
         self.send(transmitter.load(bytes))
@@ -229,8 +250,8 @@ impl Channel {
 
     // "Line turn, one character time."
     pub fn turn(self) -> Answered
-        requires { ⌜ Sound depth twelve self ⌝ }
-        ensures { λ r. ⌜ Promise depth twelve self (calls.line lines.turn) r [] ⌝ }
+        requires { ⌜ Sound self ⌝ }
+        ensures { λ r. ⌜ Promise self (calls.transmit lines.turn) r [] ⌝ }
     {
         let transmitter = self.transmitter;
         let settings = self.settings;
@@ -240,8 +261,8 @@ impl Channel {
 
     // CTS. Refusal 10: neither 0 nor 1.
     pub fn set_cts(self, value: u8) -> Answered
-        requires { ⌜ Sound depth twelve self ⌝ }
-        ensures { λ r. ⌜ Promise depth twelve self (calls.line (lines.cts value)) r [] ⌝ }
+        requires { ⌜ Sound self ⌝ }
+        ensures { λ r. ⌜ Promise self (calls.transmit (lines.setCts value)) r [] ⌝ }
     {
         let transmitter = self.transmitter;
         self.send(transmitter.set_cts(value))
@@ -249,8 +270,8 @@ impl Channel {
 
     // "Special s from 1 to 4: the present special character s waits for the next turn." Refusals: 6 not 1 to 4, 7 one already waits.
     pub fn ask_special(self, number: u8) -> Answered
-        requires { ⌜ Sound depth twelve self ⌝ }
-        ensures { λ r. ⌜ Promise depth twelve self (calls.line (lines.special number)) r [] ⌝ }
+        requires { ⌜ Sound self ⌝ }
+        ensures { λ r. ⌜ Promise self (calls.transmit (lines.askSpecial number)) r [] ⌝ }
     {
         let transmitter = self.transmitter;
         let settings = self.settings;

@@ -10,7 +10,7 @@ use lib.ListN.{length, length-append, length-take, length-drop, length-set, getD
 use lib.Seq.{getD-set-same, getD-set-other}
 use borrow.Author.Tests.{le-ltb, eqb-true, eqb-false}
 use Rattle.paper.specs.Settings.{Size, settingsOf, freshSettings, tests, firstBad, badField}
-use Rattle.paper.specs.Transmitter.{Transmitter, LineCall, transmitDepth, loaded}
+use Rattle.paper.specs.Transmitter.{Transmitter, TransmitCall, transmitDepth, loaded}
 use Rattle.paper.specs.Given.{Given}
 use Rattle.paper.specs.Arrival
 use Rattle.paper.specs.Channel.{Channel, fresh, ChannelCall, channelStep}
@@ -19,16 +19,16 @@ use Rattle.paper.specs.Run.{Named, end}
 use Rattle.paper.specs.Bounds.{SoundChannel, Sound}
 use Rattle.demands.specs.Demands.{Bounds}
 use Rattle.demands.proofs.Choices.{chosen}
-use Rattle.demands.proofs.Cases.{LineDeed, declined, loading, other, Deed, refusal, arrival, reading, change, renewal, showing, sending, deed, by-number, by-pick}
+use Rattle.demands.proofs.Cases.{TransmitDeed, declined, loading, other, Deed, refusal, arrival, reading, change, renewal, showing, sending, deed, by-number, by-pick}
 use Rattle.demands.proofs.Placing.{placed-fits}
 
 -- "a transmit queue of 12 bytes": load takes what there is room for, and nothing else queues a byte
-line-kept : {t : Transmitter} {c : LineCall} {g : Given Transmitter} → LineDeed t c g
+transmit-kept : {t : Transmitter} {c : TransmitCall} {g : Given Transmitter} → TransmitDeed t c g
     → length (t .bytes) ≤ transmitDepth → length (g .next .bytes) ≤ transmitDepth
 unfolding loaded
-line-kept (declined r) h = h
-line-kept (loading l) h = simp (length-append, length-take) (omega arith)
-line-kept (other o) h = omega (arith, o .short)
+transmit-kept (declined r) h = h
+transmit-kept (loading l) h = simp (length-append, length-take) (omega arith)
+transmit-kept (other o) h = omega (arith, o .short)
 
 fresh-settings : (most : ℕ) → 1 ≤ most → firstBad (tests most freshSettings) ≡ none
 fresh-settings most h = rw (le-ltb most 1 h)
@@ -56,7 +56,7 @@ module _ {A : Type 0} (z : Size) (one : 1 ≤ z .most) where
   deed-kept a h s renewal = fresh-channel
   deed-kept a h s showing = s
   deed-kept a h s (sending c g d q) =
-      record { settings = s .settings; waiting = s .waiting; losses = s .losses; sending = line-kept d (s .sending) }
+      record { settings = s .settings; waiting = s .waiting; losses = s .losses; sending = transmit-kept d (s .sending) }
 
   pub channel-kept : (a : A) (h : Channel A) (c : ChannelCall) → SoundChannel z h → SoundChannel z (channelStep z a h c .next)
   channel-kept a h c s = deed-kept a h s (deed z a h c)

@@ -13,8 +13,8 @@ use Rattle.paper.specs.Given.{Given, given, refused}
 use Rattle.paper.specs.Settings.{Size, badField}
 use Rattle.paper.specs.Arrival
 use Rattle.paper.specs.Arrival.{CR, NL}
-use Rattle.paper.specs.Transmitter.{Transmitter, LineCall, load, turn, cts, special, lineLent, loaded, sendNext, held, turned, specialTaken, lineStep}
-use Rattle.paper.specs.Channel.{Channel, fresh, ChannelCall, arrive, read, settings, reset, state, line, lent, noRoom, arrived, handedOver, settingsTaken, shown, channelStep}
+use Rattle.paper.specs.Transmitter.{Transmitter, TransmitCall, load, turn, setCts, askSpecial, transmitLent, loaded, sendNext, held, turned, specialTaken, transmitStep}
+use Rattle.paper.specs.Channel.{Channel, fresh, ChannelCall, arrive, read, takeSettings, reset, state, transmit, lent, noRoom, arrived, handedOver, settingsTaken, shown, channelStep}
 use Rattle.paper.specs.Card.{Card, on, pick, step, at, ready, firstReady, put, pickedAs, picked}
 use Rattle.paper.specs.declared.Settings.{Settings}
 use Rattle.paper.specs.declared.Flags.{Flags}
@@ -36,21 +36,21 @@ quiet : {a : Answer} → fateOf a ≡ none → bytesTold a ≡ 0 → Quiet a
 quiet p q = record { fateless = p; wordless = q }
 
 -- a line call that is served and queues no byte
-pub record Other (t : Transmitter) (c : LineCall) (g : Given Transmitter) : Type 0 where
+pub record Other (t : Transmitter) (c : TransmitCall) (g : Given Transmitter) : Type 0 where
   pub calm : Quiet (g .answer)
   pub served : isRefused (g .answer) ≡ false
   pub short : length (g .next .bytes) ≤ length (t .bytes)
-  pub same : g .lent ≡ lineLent c
+  pub same : g .lent ≡ transmitLent c
 
--- a line call is refused, or a load, or one of those
-pub data LineDeed (t : Transmitter) : LineCall → Given Transmitter → Type 0 where
-  declined : {c : LineCall} (r : Refusal) → LineDeed t c (refused r t (lineLent c))
-  loading : (l : List ℕ) → LineDeed t (load l) (loaded t l)
-  other : {c : LineCall} {g : Given Transmitter} → Other t c g → LineDeed t c g
+-- a call on the transmitter is refused, or a load, or one of those
+pub data TransmitDeed (t : Transmitter) : TransmitCall → Given Transmitter → Type 0 where
+  declined : {c : TransmitCall} (r : Refusal) → TransmitDeed t c (refused r t (transmitLent c))
+  loading : (l : List ℕ) → TransmitDeed t (load l) (loaded t l)
+  other : {c : TransmitCall} {g : Given Transmitter} → Other t c g → TransmitDeed t c g
 
 module _ (s : Settings) (f : Flags) (t : Transmitter) where
-  gives : {c : LineCall} (a : Answer) (next : Transmitter) → Quiet a → isRefused a ≡ false → length (next .bytes) ≤ length (t .bytes)
-      → Other t c (given a next (lineLent c))
+  gives : {c : TransmitCall} (a : Answer) (next : Transmitter) → Quiet a → isRefused a ≡ false → length (next .bytes) ≤ length (t .bytes)
+      → Other t c (given a next (transmitLent c))
   gives a next q e l = record { calm = q; served = e; short = l; same = refl }
 
   sent : (b : ℕ) (next : Transmitter) → length (next .bytes) ≤ length (t .bytes) → Other t turn (given (Sent b) next [])
@@ -60,7 +60,7 @@ module _ (s : Settings) (f : Flags) (t : Transmitter) where
   silent = gives Silent t (quiet refl refl) refl (omega arith)
 
   next-other : (owed : Bool) (queue : List ℕ) → length queue ≤ length (t .bytes) → Other t turn (sendNext s t owed queue)
-  next-other true queue h = sent NL _ h
+  next-other true queue h = sent NL _ (le-refl (length (t .bytes)))
   next-other false [] h = silent
   next-other false (b ∷ rest) h =
       let l : length rest ≤ length (t .bytes) = omega arith in
@@ -70,25 +70,25 @@ module _ (s : Settings) (f : Flags) (t : Transmitter) where
   turn-other (some b) = sent b _ (le-refl (length (t .bytes)))
   turn-other none = either (Other t turn) (held s f t) silent (next-other (t .owed) (t .bytes) (le-refl (length (t .bytes))))
 
-  settled : {c : LineCall} (next : Transmitter) → next .bytes ≡ t .bytes → LineDeed t c (given Done next (lineLent c))
+  settled : {c : TransmitCall} (next : Transmitter) → next .bytes ≡ t .bytes → TransmitDeed t c (given Done next (transmitLent c))
   settled next e = other (gives Done next (quiet refl refl) refl (rw e (le-refl (length (t .bytes)))))
 
-  special-deed : (n : ℕ) (waiting : Option ℕ) → LineDeed t (special n) (specialTaken s t n waiting)
+  special-deed : (n : ℕ) (waiting : Option ℕ) → TransmitDeed t (askSpecial n) (specialTaken s t n waiting)
   special-deed n (some b) = declined SpecialWaits
   special-deed n none = settled _ refl
 
-  pub line-deed : (c : LineCall) → LineDeed t c (lineStep s f t c)
-  unfolding lineStep
-  line-deed (load l) = loading l
-  line-deed turn = other (turn-other (t .special))
-  line-deed (cts v) = either (LineDeed t (cts v)) (ltb 1 v) (declined BadCts) (settled _ refl)
-  line-deed (special n) = either (LineDeed t (special n)) (ltb n 1 || ltb 4 n) (declined BadSpecial) (special-deed n (t .special))
+  pub transmit-deed : (c : TransmitCall) → TransmitDeed t c (transmitStep s f t c)
+  unfolding transmitStep
+  transmit-deed (load l) = loading l
+  transmit-deed turn = other (turn-other (t .special))
+  transmit-deed (setCts v) = either (TransmitDeed t (setCts v)) (ltb 1 v) (declined BadCts) (settled _ refl)
+  transmit-deed (askSpecial n) = either (TransmitDeed t (askSpecial n)) (ltb n 1 || ltb 4 n) (declined BadSpecial) (special-deed n (t .special))
 
-line-quiet : {t : Transmitter} {c : LineCall} {g : Given Transmitter} → LineDeed t c g → Quiet (g .answer)
+transmit-quiet : {t : Transmitter} {c : TransmitCall} {g : Given Transmitter} → TransmitDeed t c g → Quiet (g .answer)
 unfolding loaded
-line-quiet (declined r) = quiet refl refl
-line-quiet (loading l) = quiet refl refl
-line-quiet (other o) = o .calm
+transmit-quiet (declined r) = quiet refl refl
+transmit-quiet (loading l) = quiet refl refl
+transmit-quiet (other o) = o .calm
 
 -- CALLS ON A CHANNEL
 
@@ -96,11 +96,11 @@ pub data Deed {A : Type 0} (z : Size) (a : A) (h : Channel A) : ChannelCall → 
   refusal : {c : ChannelCall} (r : Refusal) → arrivals c ≡ 0 → Deed z a h c (refused r h (lent c))
   arrival : (kind b : ℕ) → ltb 3 kind ≡ false → Deed z a h (arrive kind b) (arrived z a h (Arrival.arrival (h .settings) (h .flags) kind b))
   reading : (n place : ℕ) (buffer : List ℕ) → noRoom n place buffer ≡ false → Deed z a h (read n place buffer) (handedOver h n place buffer)
-  change : (l : List ℕ) → badField (z .most) l ≡ none → Deed z a h (settings l) (settingsTaken h l none)
+  change : (l : List ℕ) → badField (z .most) l ≡ none → Deed z a h (takeSettings l) (settingsTaken h l none)
   renewal : Deed z a h reset (given Done fresh [])
   showing : Deed z a h state (given (shown h) h [])
-  sending : (c : LineCall) (g : Given Transmitter) → LineDeed (h .transmitter) c g → Quiet (g .answer)
-      → Deed z a h (line c) (given (g .answer) (record { settings = h .settings; flags = h .flags; queue = h .queue; transmitter = g .next }) (g .lent))
+  sending : (c : TransmitCall) (g : Given Transmitter) → TransmitDeed (h .transmitter) c g → Quiet (g .answer)
+      → Deed z a h (transmit c) (given (g .answer) (record { settings = h .settings; flags = h .flags; queue = h .queue; transmitter = g .next }) (g .lent))
 
 module _ {A : Type 0} (z : Size) (a : A) (h : Channel A) where
   deed-read : (n place : ℕ) (buffer : List ℕ) → Deed z a h (read n place buffer) (channelStep z a h (read n place buffer))
@@ -109,22 +109,22 @@ module _ {A : Type 0} (z : Size) (a : A) (h : Channel A) where
       let P = Deed z a h (read n place buffer) in
       either P (ltb (z .most) n) (refusal TooMany refl) (chosen P (noRoom n place buffer) (λ e. refusal NoRoom refl) (reading n place buffer))
 
-  deed-settings : (l : List ℕ) (o : Option ℕ) → badField (z .most) l ≡ o → Deed z a h (settings l) (settingsTaken h l o)
+  deed-settings : (l : List ℕ) (o : Option ℕ) → badField (z .most) l ≡ o → Deed z a h (takeSettings l) (settingsTaken h l o)
   deed-settings l (some field) e = refusal (BadField field) refl
   deed-settings l none e = change l e
 
-  deed-line : (c : LineCall) → Deed z a h (line c) (channelStep z a h (line c))
+  deed-transmit : (c : TransmitCall) → Deed z a h (transmit c) (channelStep z a h (transmit c))
   unfolding channelStep
-  deed-line c = let d = line-deed (h .settings) (h .flags) (h .transmitter) c in sending c _ d (line-quiet d)
+  deed-transmit c = let d = transmit-deed (h .settings) (h .flags) (h .transmitter) c in sending c _ d (transmit-quiet d)
 
   pub deed : (c : ChannelCall) → Deed z a h c (channelStep z a h c)
   unfolding channelStep
   deed (arrive kind b) = chosen (Deed z a h (arrive kind b)) (ltb 3 kind) (λ e. refusal BadKind (rw e)) (arrival kind b)
   deed (read n place buffer) = deed-read n place buffer
-  deed (settings l) = deed-settings l (badField (z .most) l) refl
+  deed (takeSettings l) = deed-settings l (badField (z .most) l) refl
   deed reset = renewal
   deed state = showing
-  deed (line c) = deed-line c
+  deed (transmit c) = deed-transmit c
 
 -- CALLS ON A CARD
 

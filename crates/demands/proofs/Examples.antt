@@ -3,11 +3,11 @@ use mathlib.Core.Path.{refl}
 use Rattle.paper.specs.Settings.{badField}
 use Rattle.paper.specs.Arrival.{goodItem, step1, step2, stripped, woken, step4, step5, flowRuling, step6, ending, step7, good, arrival}
 use Rattle.paper.specs.Stream.{decode, cleanFront}
-use Rattle.paper.specs.Transmitter.{transmitDepth, loaded, lineStep}
+use Rattle.paper.specs.Transmitter.{transmitDepth, loaded, transmitStep}
 use Rattle.paper.specs.Channel.{noRoom, channelStep}
 use Rattle.paper.specs.Card.{picked, step}
 use Rattle.paper.specs.Frames.{callOf, digit, lineCall}
-use Rattle.demands.specs.Examples.{Ranges, Crossed, Table, Endings, LossStays, ReadCases, ReaderCases, WholeCase, LineCase, QueueCase}
+use Rattle.demands.specs.Examples.{Ranges, Crossed, Table, Endings, LossStays, ReadCases, ReaderCases, WholeCase, TransmitCase, QueueCase}
 use Rattle.demands.specs.Demands.{TwoHosts}
 
 pub ranges : Ranges
@@ -38,15 +38,15 @@ unfolding decode cleanFront
 reader-cases = record { nothing = refl; whole = refl; broken = refl; cut = refl; cut-later = refl; short = refl; front = refl }
 
 pub whole-case : WholeCase
-unfolding badField goodItem step1 step2 stripped woken step4 step5 flowRuling step6 ending step7 good arrival transmitDepth loaded lineStep noRoom channelStep picked step callOf digit lineCall
+unfolding badField goodItem step1 step2 stripped woken step4 step5 flowRuling step6 ending step7 good arrival transmitDepth loaded transmitStep noRoom channelStep picked step callOf digit lineCall
 whole-case = refl
 
-pub line-case : LineCase
-unfolding badField goodItem step1 step2 stripped woken step4 step5 flowRuling step6 ending step7 good arrival transmitDepth loaded lineStep noRoom channelStep picked step callOf digit lineCall
-line-case = refl
+pub transmit-case : TransmitCase
+unfolding badField goodItem step1 step2 stripped woken step4 step5 flowRuling step6 ending step7 good arrival transmitDepth loaded transmitStep noRoom channelStep picked step callOf digit lineCall
+transmit-case = refl
 
 pub queue-case : QueueCase
-unfolding badField goodItem step1 step2 stripped woken step4 step5 flowRuling step6 ending step7 good arrival transmitDepth loaded lineStep noRoom channelStep picked step callOf digit lineCall
+unfolding badField goodItem step1 step2 stripped woken step4 step5 flowRuling step6 ending step7 good arrival transmitDepth loaded transmitStep noRoom channelStep picked step callOf digit lineCall
 queue-case = refl
 
 pub two-hosts : TwoHosts

@@ -14,8 +14,8 @@ use Rattle.paper.specs.Given.{Given}
 use Rattle.paper.specs.Settings.{Size}
 use Rattle.paper.specs.Arrival
 use Rattle.paper.specs.Queue.{Slot, Queue, flagNewest, placeItem, place}
-use Rattle.paper.specs.Transmitter.{LineCall}
-use Rattle.paper.specs.Channel.{Channel, fresh, ChannelCall, line, handedOver}
+use Rattle.paper.specs.Transmitter.{TransmitCall}
+use Rattle.paper.specs.Channel.{Channel, fresh, ChannelCall, transmit, handedOver}
 use Rattle.paper.specs.Run.{Named}
 use Rattle.paper.specs.declared.Ruling.{Ruling}
 use Rattle.paper.specs.declared.Ruling.the-variants.{Store, StoreNothing}
@@ -80,9 +80,9 @@ module _ {A : Type 0} where
   rejoin x u v k w y p q = rw (append-assoc, p, ← append-assoc x k w, q)
 
   -- a line call hands nothing over
-  pub line-hands : (h : Channel A) (a : A) (c : LineCall) (answer : Answer) (l : List ℕ)
-      → handedBy (record { before = h; by = record { name = a; call = line c }; answer = answer; lent = l }) ≡ []
-  line-hands h a c answer l = either (λ (n : ℕ). take n (h .queue .slots) ≡ []) (isRefused answer) refl refl
+  pub transmit-hands : (h : Channel A) (a : A) (c : TransmitCall) (answer : Answer) (l : List ℕ)
+      → handedBy (record { before = h; by = record { name = a; call = transmit c }; answer = answer; lent = l }) ≡ []
+  transmit-hands h a c answer l = either (λ (n : ℕ). take n (h .queue .slots) ≡ []) (isRefused answer) refl refl
 
   module _ (z : Size) where
     -- NOTHING IS LOST NEXT from an empty queue with room
@@ -143,7 +143,7 @@ module _ {A : Type 0} where
     law-one cs law a h l e s (sending c g d q) =
         let h′ : Channel A = record { settings = h .settings; flags = h .flags; queue = h .queue; transmitter = g .next } in
         rw (q .fateless)
-        (ap (λ (out : List (Slot A)). (out ++ handed (entries z h′ cs)) ++ leaves z h′ cs .queue .slots) (line-hands h a c (g .answer) (g .lent))
+        (ap (λ (out : List (Slot A)). (out ++ handed (entries z h′ cs)) ++ leaves z h′ cs .queue .slots) (transmit-hands h a c (g .answer) (g .lent))
         ∙ law h′ l s)
 
     law : (cs : List (Named A ChannelCall)) → Law cs

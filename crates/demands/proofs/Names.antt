@@ -11,7 +11,7 @@ use Rattle.paper.specs.Given.{Given, given, refused}
 use Rattle.paper.specs.Settings.{Size, badField}
 use Rattle.paper.specs.Arrival
 use Rattle.paper.specs.Queue.{Slot, Queue, Placed, flagNewest, placeItem, place, itemsOf, overruns}
-use Rattle.paper.specs.Channel.{Channel, fresh, ChannelCall, arrive, read, settings, reset, state, line, lent, noRoom, arrived, handedOver, settingsTaken, channelStep}
+use Rattle.paper.specs.Channel.{Channel, fresh, ChannelCall, arrive, read, takeSettings, reset, state, transmit, lent, noRoom, arrived, handedOver, settingsTaken, channelStep}
 use Rattle.paper.specs.Card.{Card, freshCard, Call, on, pick, at, ready, round, firstReady, pickedAs, picked, put, step}
 use Rattle.paper.specs.Run.{Named, run, nameless}
 use Rattle.paper.specs.declared.Item.{Item}
@@ -131,10 +131,10 @@ module _ {A B : Type 0} (f : A → B) where
         go true u = refl
         go false true = refl
         go false false = re-handed h n at buffer
-    re-channelStep h (settings l) = re-settings h l (badField (z .most) l)
+    re-channelStep h (takeSettings l) = re-settings h l (badField (z .most) l)
     re-channelStep h reset = refl
     re-channelStep h state = rw length-map
-    re-channelStep h (line c) = refl
+    re-channelStep h (transmit c) = refl
 
     re-at : (K : Card A) (n : ℕ) → at (reCard K) n ≡ reChannel (at K n)
     re-at K n = map-getD reChannel (K .channels) n fresh

@@ -30,7 +30,7 @@ use Rattle.demands.proofs.Choices.{chosen, either}
 use Rattle.demands.proofs.Cases.{Deed, refusal, arrival, reading, change, renewal, showing, sending, deed}
 use Rattle.demands.proofs.Port.{entryOf, entries, portCalls, history-is}
 use Rattle.demands.proofs.Reader.{Markable, AllMarkable, nil, cons, items-back}
-use Rattle.demands.proofs.Fifo.{line-hands}
+use Rattle.demands.proofs.Fifo.{transmit-hands}
 
 -- WHAT ONE ARRIVAL STORES where marking is on
 
@@ -168,7 +168,7 @@ module _ {A : Type 0} where
     hands-one cs ih a h p m ms showing = ih h p ms
     hands-one cs ih a h p m ms (sending c g d q) =
         let h′ : Channel A = record { settings = h .settings; flags = h .flags; queue = h .queue; transmitter = g .next } in
-        subst⁻¹ (λ (out : List (Slot A)). Fair (out ++ handed (entries z h′ cs))) (line-hands h a c (g .answer) (g .lent)) (ih h′ p ms)
+        subst⁻¹ (λ (out : List (Slot A)). Fair (out ++ handed (entries z h′ cs))) (transmit-hands h a c (g .answer) (g .lent)) (ih h′ p ms)
 
     hands : (cs : List (Named A ChannelCall)) → Hands cs
     hands [] h p m = nil
@@ -192,7 +192,7 @@ module _ {A : Type 0} where
     found-one cs ih a h showing = ih h
     found-one cs ih a h (sending c g d q) =
         let h′ : Channel A = record { settings = h .settings; flags = h .flags; queue = h .queue; transmitter = g .next } in
-        let hands = line-hands h a c (g .answer) (g .lent) in
+        let hands = transmit-hands h a c (g .answer) (g .lent) in
         rw (q .wordless) (ih h′ ∙ ap (λ (out : List (Slot A)). images (itemsOf (out ++ handed (entries z h′ cs)))) (sym hands))
 
     found : (cs : List (Named A ChannelCall)) → Found cs

@@ -12,17 +12,17 @@ use lib.Seq.{set-getD}
 use borrow.Author.Tests.{ltb-true, ltb-false, eqb-true, eqb-false}
 use Rattle.paper.specs.Given.{Given}
 use Rattle.paper.specs.Settings.{Size, settingsOf, Test, tests, firstBad, badField}
-use Rattle.paper.specs.Transmitter.{Transmitter, LineCall, load, turn, cts, special, lineLent, loaded, specialTaken, lineStep}
-use Rattle.paper.specs.Channel.{Channel, ChannelCall, arrive, read, settings, reset, state, line, lent, noRoom, settingsTaken, channelStep}
+use Rattle.paper.specs.Transmitter.{Transmitter, TransmitCall, load, turn, setCts, askSpecial, transmitLent, loaded, specialTaken, transmitStep}
+use Rattle.paper.specs.Channel.{Channel, ChannelCall, arrive, read, takeSettings, reset, state, transmit, lent, noRoom, settingsTaken, channelStep}
 use Rattle.paper.specs.Card.{Card, Call, on, pick, step, at, with}
 use Rattle.paper.specs.declared.Settings.{Settings}
 use Rattle.paper.specs.declared.Flags.{Flags}
 use Rattle.paper.specs.declared.Refusal.the-variants.{SpecialWaits}
 use Rattle.demands.specs.History.{isRefused}
-use Rattle.demands.specs.Conditions.{Condition, due, fieldCondition, lineConditions, channelConditions, conditions, FirstDue, served, here, later}
+use Rattle.demands.specs.Conditions.{Condition, due, fieldCondition, transmitConditions, channelConditions, conditions, FirstDue, served, here, later}
 use Rattle.demands.specs.Demands.{lentBy, Refusals}
 use Rattle.demands.proofs.Choices.{chosen, chosen-or}
-use Rattle.demands.proofs.Cases.{LineDeed, declined, loading, other, turn-other, Deed, refusal, arrival, reading, change, renewal, showing, sending, deed, by-number, by-pick}
+use Rattle.demands.proofs.Cases.{TransmitDeed, declined, loading, other, turn-other, Deed, refusal, arrival, reading, change, renewal, showing, sending, deed, by-number, by-pick}
 
 -- NOTHING CHANGES
 
@@ -30,11 +30,11 @@ use Rattle.demands.proofs.Cases.{LineDeed, declined, loading, other, tu
 abbrev Unchanged : {S : Type 0} (s : S) (l : List ℕ) (g : Given S) → Type 0
 Unchanged s l g = isRefused (g .answer) ≡ true → (g .next ≡ s) × (g .lent ≡ l)
 
-line-unchanged : {t : Transmitter} {c : LineCall} {g : Given Transmitter} → LineDeed t c g → Unchanged t (lineLent c) g
+transmit-unchanged : {t : Transmitter} {c : TransmitCall} {g : Given Transmitter} → TransmitDeed t c g → Unchanged t (transmitLent c) g
 unfolding loaded
-line-unchanged (declined r) e = (refl, refl)
-line-unchanged (loading l) e = absurd (false≢true e)
-line-unchanged (other o) e = absurd (false≢true (sym (o .served) ∙ e))
+transmit-unchanged (declined r) e = (refl, refl)
+transmit-unchanged (loading l) e = absurd (false≢true e)
+transmit-unchanged (other o) e = absurd (false≢true (sym (o .served) ∙ e))
 
 module _ {A : Type 0} (z : Size) (a : A) where
   channel-unchanged : {h : Channel A} {c : ChannelCall} {g : Given (Channel A)} → Deed z a h c g → Unchanged h (lent c) g
@@ -45,7 +45,7 @@ module _ {A : Type 0} (z : Size) (a : A) where
   channel-unchanged renewal e = absurd (false≢true e)
   channel-unchanged showing e = absurd (false≢true e)
   channel-unchanged {h} (sending c g d q) e =
-      let u = line-unchanged d e in
+      let u = transmit-unchanged d e in
       (ap (λ (t : Transmitter). record { settings = h .settings; flags = h .flags; queue = h .queue; transmitter = t }) (u .0), u .1)
 
   unchanged : (K : Card A) (c : Call) → Unchanged K (lentBy c) (step z a K c)
@@ -66,14 +66,14 @@ module _ (s : Settings) (f : Flags) (t : Transmitter) where
   special-exact n none = later (λ (waits : _≢_ {A = Option ℕ} none none). waits refl) (served refl)
   special-exact n (some b) = here (Option·some-ne-none b)
 
-  line-exact : (c : LineCall) → Exact (lineConditions t c) (lineStep s f t c)
-  unfolding lineStep loaded
-  line-exact (load l) = served refl
-  line-exact turn = served (turn-other s f t (t .special) .served)
-  line-exact (cts v) =
-      chosen (Exact (lineConditions t (cts v))) (ltb 1 v) (λ e. here (ltb-true 1 v e)) (λ e. later (omega (arith, ltb-false)) (served refl))
-  line-exact (special n) =
-      chosen-or (Exact (lineConditions t (special n))) (ltb n 1) (ltb 4 n) (λ e. here (inl (ltb-true n 1 e))) (λ e. here (inr (ltb-true 4 n e)))
+  transmit-exact : (c : TransmitCall) → Exact (transmitConditions t c) (transmitStep s f t c)
+  unfolding transmitStep loaded
+  transmit-exact (load l) = served refl
+  transmit-exact turn = served (turn-other s f t (t .special) .served)
+  transmit-exact (setCts v) =
+      chosen (Exact (transmitConditions t (setCts v))) (ltb 1 v) (λ e. here (ltb-true 1 v e)) (λ e. later (omega (arith, ltb-false)) (served refl))
+  transmit-exact (askSpecial n) =
+      chosen-or (Exact (transmitConditions t (askSpecial n))) (ltb n 1) (ltb 4 n) (λ e. here (inl (ltb-true n 1 e))) (λ e. here (inr (ltb-true 4 n e)))
       λ low high. later (⊎-elim (omega (arith, ltb-false)) (omega (arith, ltb-false))) (special-exact n (t .special))
 
 firstBad-exact : {A : Type 0} (h : Channel A) (l : List ℕ) (ts : List Test) → Exact (map fieldCondition ts) (settingsTaken h l (firstBad ts))
@@ -95,13 +95,13 @@ module _ {A : Type 0} (z : Size) (a : A) where
       (chosen-or (Exact _) (ltb (length buffer) place) (ltb (length buffer) (place + 3 * n))
       (λ e. here (inr (ltb-true _ _ e))) (λ e. here (inl (ltb-true _ _ e)))
       λ inside room. later (⊎-elim (omega (arith, ltb-false)) (omega (arith, ltb-false))) (served refl))
-  channel-exact h (settings l) =
-      chosen (λ o. Exact (channelConditions z h (settings l)) (settingsTaken h l o)) (eqb (length l) 15)
+  channel-exact h (takeSettings l) =
+      chosen (λ o. Exact (channelConditions z h (takeSettings l)) (settingsTaken h l o)) (eqb (length l) 15)
       (λ e. later (λ (other : length l ≢ 15). other (eqb-true _ _ e)) (firstBad-exact h l (tests (z .most) (settingsOf l))))
       (λ e. here (eqb-false _ _ e))
   channel-exact h reset = served refl
   channel-exact h state = served refl
-  channel-exact h (line c) = line-exact (h .settings) (h .flags) (h .transmitter) c
+  channel-exact h (transmit c) = transmit-exact (h .settings) (h .flags) (h .transmitter) c
 
   exact : (K : Card A) (c : Call) → Exact (conditions z K c) (step z a K c)
   exact K (on n c) =

@@ -5,7 +5,7 @@ use mathlib.Core.List.{List, [], _∷_, _++_, append-nil}
 use lib.Seq.{append-snoc}
 use Rattle.paper.specs.Choice.{if_then_else_}
 use Rattle.paper.specs.Settings.{Size}
-use Rattle.paper.specs.Channel.{Channel, fresh, ChannelCall, arrive, read, settings, reset, state, line, channelStep}
+use Rattle.paper.specs.Channel.{Channel, fresh, ChannelCall, arrive, read, takeSettings, reset, state, transmit, channelStep}
 use Rattle.paper.specs.Run.{Named}
 use Rattle.demands.specs.History.{Entry, isReset, behindReset, sinceReset}
 use Rattle.demands.proofs.Port.{entries, leaves}
@@ -25,10 +25,10 @@ module _ {A : Type 0} where
     unfolding channelStep
     reset-gives a h (arrive k b) e = absurd (false≢true e)
     reset-gives a h (read n place buffer) e = absurd (false≢true e)
-    reset-gives a h (settings l) e = absurd (false≢true e)
+    reset-gives a h (takeSettings l) e = absurd (false≢true e)
     reset-gives a h reset e = refl
     reset-gives a h state e = absurd (false≢true e)
-    reset-gives a h (line c) e = absurd (false≢true e)
+    reset-gives a h (transmit c) e = absurd (false≢true e)
 
     leaves-more : (h : Channel A) (cs ds : List (Named A ChannelCall)) → leaves z h (cs ++ ds) ≡ leaves z (leaves z h cs) ds
     leaves-more h [] ds = refl

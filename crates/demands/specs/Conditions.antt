@@ -7,8 +7,8 @@ use mathlib.Core.Option.{none}
 use Prim.Native.Nat.{_+_, _*_, _<_}
 use lib.ListN.{length}
 use Rattle.paper.specs.Settings.{Size, settingsOf, Test, tests}
-use Rattle.paper.specs.Transmitter.{Transmitter, LineCall, load, turn, cts, special}
-use Rattle.paper.specs.Channel.{Channel, ChannelCall, arrive, read, settings, reset, state, line}
+use Rattle.paper.specs.Transmitter.{Transmitter, TransmitCall, load, turn, setCts, askSpecial}
+use Rattle.paper.specs.Channel.{Channel, ChannelCall, arrive, read, takeSettings, reset, state, transmit}
 use Rattle.paper.specs.Card.{Card, Call, on, pick, at}
 use Rattle.paper.specs.declared.Refusal.{Refusal}
 use Rattle.paper.specs.declared.Refusal.the-variants.{BadChannel, BadKind, TooMany, NoRoom, BadField, BadSpecial, SpecialWaits, BadCts}
@@ -27,20 +27,20 @@ due r p = record { refusal = r; when = p }
 abbrev pub fieldCondition : Test → Condition
 fieldCondition t = due (BadField (t .field)) (t .bad ≡ true)
 
-abbrev pub lineConditions : Transmitter → LineCall → List Condition
-lineConditions t (load l) = []
-lineConditions t turn = []
-lineConditions t (cts v) = due BadCts (1 < v) ∷ []
-lineConditions t (special s) = due BadSpecial ((s < 1) ⊎ (4 < s)) ∷ due SpecialWaits (t .special ≢ none) ∷ []
+abbrev pub transmitConditions : Transmitter → TransmitCall → List Condition
+transmitConditions t (load l) = []
+transmitConditions t turn = []
+transmitConditions t (setCts v) = due BadCts (1 < v) ∷ []
+transmitConditions t (askSpecial s) = due BadSpecial ((s < 1) ⊎ (4 < s)) ∷ due SpecialWaits (t .special ≢ none) ∷ []
 
 abbrev pub channelConditions : {A : Type 0} → Size → Channel A → ChannelCall → List Condition
 channelConditions z h (arrive kind b) = due BadKind (3 < kind) ∷ []
 channelConditions z h (read n place buffer) =
     due TooMany (z .most < n) ∷ due NoRoom ((length buffer < place + 3 * n) ⊎ (length buffer < place)) ∷ []
-channelConditions z h (settings l) = due (BadField 0) (length l ≢ 15) ∷ map fieldCondition (tests (z .most) (settingsOf l))
+channelConditions z h (takeSettings l) = due (BadField 0) (length l ≢ 15) ∷ map fieldCondition (tests (z .most) (settingsOf l))
 channelConditions z h reset = []
 channelConditions z h state = []
-channelConditions z h (line c) = lineConditions (h .transmitter) c
+channelConditions z h (transmit c) = transmitConditions (h .transmitter) c
 
 abbrev pub conditions : {A : Type 0} → Size → Card A → Call → List Condition
 conditions z K (on n c) = due BadChannel (3 < n) ∷ channelConditions z (at K n) c

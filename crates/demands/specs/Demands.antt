@@ -19,7 +19,7 @@ use Rattle.paper.specs.declared.Fate.the-variants.{Stored, Lost}
 use Rattle.paper.specs.declared.Answer.{Answer}
 use Rattle.paper.specs.declared.Answer.the-variants.{Handed, Shown, Picked}
 use Rattle.demands.specs.Text.{text}
-use Rattle.demands.specs.Examples.{Ranges, Crossed, Table, Endings, LossStays, ReadCases, ReaderCases, WholeCase, LineCase, QueueCase}
+use Rattle.demands.specs.Examples.{Ranges, Crossed, Table, Endings, LossStays, ReadCases, ReaderCases, WholeCase, TransmitCase, QueueCase}
 use Rattle.demands.specs.Marks.{characterOf, stream, Accepts}
 use Rattle.demands.specs.History.{isRefused, Entry, port, sinceReset, NoReset, handed, bytesFound, Marking, stored, lost, events, between, befores, numbered, Each, NoWorse, NoPick}
 use Rattle.demands.specs.Conditions.{conditions, FirstDue}
@@ -198,7 +198,7 @@ pub record Demands : Type 1 where
   pub read-cases : ReadCases
   pub reader-cases : ReaderCases
   pub whole-case : WholeCase
-  pub line-case : LineCase
+  pub transmit-case : TransmitCase
   pub queue-case : QueueCase
   pub refusals : Refusals
   pub lines : Lines

@@ -5,10 +5,10 @@ use mathlib.Core.Option.{Option, none, some}
 use Prim.Native.Nat.{ℕ, _+_, _-_}
 use Prim.Native.String.{String}
 use lib.ListN.{set, take, replicate}
-use Rattle.paper.specs.Settings.{twelve, freshBytes, badField}
+use Rattle.paper.specs.Settings.{cardSize, freshBytes, badField}
 use Rattle.paper.specs.Queue.{itemsOf, overrun}
 use Rattle.paper.specs.Stream.{images, decode, cleanFront}
-use Rattle.paper.specs.Channel.{Channel, fresh, arrive, read, settings, channelStep}
+use Rattle.paper.specs.Channel.{Channel, fresh, arrive, read, takeSettings, channelStep}
 use Rattle.paper.specs.Frames.{newline, program}
 use Rattle.paper.specs.declared.Refusal.the-variants.{TooMany, NoRoom, BrokenStream, ShortOutput}
 use Rattle.paper.specs.declared.Reading.the-variants.{Items, Unread}
@@ -52,7 +52,7 @@ ranges =
 
 -- the bad field of the settings with a value in place of the fresh one
 abbrev pub badWith : (Range → ℕ) → Range → Option ℕ
-badWith value r = badField (twelve .most) (but (r .field) (value r) freshBytes)
+badWith value r = badField (cardSize .most) (but (r .field) (value r) freshBytes)
 
 -- both ends of every range are right; one beyond an end is bad, and it is that field that is reported
 pub record Ranges : Type 0 where
@@ -64,7 +64,7 @@ pub record Ranges : Type 0 where
 -- lengths other than 15; the crossed values, which are bad only with field 5, or 5 and 7, on; own ranges first, in field order
 abbrev pub Crossed : Type 0
 Crossed =
-    map (badField (twelve .most))
+    map (badField (cardSize .most))
     (take 14 freshBytes
     ∷ (freshBytes ++ 0 ∷ [])
     ∷ []
@@ -99,8 +99,8 @@ Crossed =
 -- the stored image of one arrival, under settings
 abbrev pub imageOf : List ℕ → (kind byte : ℕ) → List ℕ
 imageOf l kind b =
-    let set = channelStep twelve (tt {0}) fresh (settings l) .next in
-    images (itemsOf (channelStep twelve (tt {0}) set (arrive kind b) .next .queue .slots))
+    let set = channelStep cardSize (tt {0}) fresh (takeSettings l) .next in
+    images (itemsOf (channelStep cardSize (tt {0}) set (arrive kind b) .next .queue .slots))
 
 -- A row: settings, a kind (0 good, 1 parity, 2 framing, 3 break) and a byte, and the stored image
 pub record TableRow : Type 0 where
@@ -173,14 +173,14 @@ LossStays = (lossAfter 255 ≡ 256) × (lossAfter 65534 ≡ 65535) × (lossAfter
 -- marking is on, and a damaged 41, a good 42 and a good FF wait
 abbrev pub three : Channel (Unit {0})
 three =
-    let marked = channelStep twelve tt fresh (settings (but 1 4 freshBytes)) .next in
-    let first = channelStep twelve tt marked (arrive 1 0x41) .next in
-    channelStep twelve tt (channelStep twelve tt first (arrive 0 0x42) .next) (arrive 0 0xFF) .next
+    let marked = channelStep cardSize tt fresh (takeSettings (but 1 4 freshBytes)) .next in
+    let first = channelStep cardSize tt marked (arrive 1 0x41) .next in
+    channelStep cardSize tt (channelStep cardSize tt first (arrive 0 0x42) .next) (arrive 0 0xFF) .next
 
 -- what a read answers, and the lent buffer after it
 abbrev pub readOf : (n place : ℕ) → List ℕ → Answer × List ℕ
 readOf n place buffer =
-    let g = channelStep twelve tt three (read n place buffer) in
+    let g = channelStep cardSize tt three (read n place buffer) in
     (g .answer, g .lent)
 
 -- "Read 12 into 36 bytes is served, into 35 refused (4); read 0 at the very end of a buffer is served", and a place beyond it is refused; 13 are too
@@ -231,7 +231,7 @@ outputOf (x ∷ xs) = text (x .answer) ++ newline ∷ outputOf xs
 
 -- the program turns the input text into the output text
 abbrev pub Answered : List Exchange → Type 0
-Answered xs = program twelve (inputOf xs) ≡ outputOf xs
+Answered xs = program cardSize (inputOf xs) ≡ outputOf xs
 
 -- "Whole case, input then output"
 abbrev pub WholeCase : Type 0
@@ -259,8 +259,8 @@ WholeCase =
 -- second special is refused while it waits; with CTS the NL goes out as CR, and special 1 between it and its NL; field 10 is turned off, and the
 -- owed NL does not count in the state and is sent; then A, then nothing; special 0 and 5, and CTS 2, are refused; of thirteen bytes twelve are
 -- taken, then none of one, and none of none
-abbrev pub LineCase : Type 0
-LineCase =
+abbrev pub TransmitCase : Type 0
+TransmitCase =
     Answered
     ("07000101000000000001010111131A1B16" ⇒ "00"
     ∷ "03000A41" ⇒ "0002"

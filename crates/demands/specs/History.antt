@@ -9,7 +9,7 @@ use lib.ListN.{take, drop}
 use Rattle.paper.specs.Choice.{if_then_else_}
 use Rattle.paper.specs.Arrival.{arrival, marking}
 use Rattle.paper.specs.Queue.{Slot, oldest, namesOf}
-use Rattle.paper.specs.Channel.{Channel, ChannelCall, arrive, read, settings, reset, state, line}
+use Rattle.paper.specs.Channel.{Channel, ChannelCall, arrive, read, takeSettings, reset, state, transmit}
 use Rattle.paper.specs.Card.{Call, on, pick, at}
 use Rattle.paper.specs.Run.{Named, Moment}
 use Rattle.paper.specs.declared.Item.{Item}
@@ -64,28 +64,28 @@ bytesTold answers.NoneReady = 0
 abbrev pub isReset : ChannelCall → Bool
 isReset (arrive k b) = false
 isReset (read n place buffer) = false
-isReset (settings l) = false
+isReset (takeSettings l) = false
 isReset reset = true
 isReset state = false
-isReset (line c) = false
+isReset (transmit c) = false
 
 -- how many characters
 abbrev pub asked : ChannelCall → ℕ
 asked (arrive k b) = 0
 asked (read n place buffer) = n
-asked (settings l) = 0
+asked (takeSettings l) = 0
 asked reset = 0
 asked state = 0
-asked (line c) = 0
+asked (transmit c) = 0
 
 -- from which place of the lent buffer on
 abbrev pub placeOf : ChannelCall → ℕ
 placeOf (arrive k b) = 0
 placeOf (read n place buffer) = place
-placeOf (settings l) = 0
+placeOf (takeSettings l) = 0
 placeOf reset = 0
 placeOf state = 0
-placeOf (line c) = 0
+placeOf (transmit c) = 0
 
 -- an arrival or a setting change; a break's byte "is disregarded"
 pub data Event : Type 0 where
@@ -95,19 +95,19 @@ pub data Event : Type 0 where
 abbrev pub eventsOf : ChannelCall → List Event
 eventsOf (arrive k b) = arrived k (if eqb k 3 then 0 else b) ∷ []
 eventsOf (read n place buffer) = []
-eventsOf (settings l) = changed l ∷ []
+eventsOf (takeSettings l) = changed l ∷ []
 eventsOf reset = []
 eventsOf state = []
-eventsOf (line c) = []
+eventsOf (transmit c) = []
 
 -- 1 for an arrival; one of a bad kind is refused, and is none
 abbrev pub arrivals : ChannelCall → ℕ
 arrivals (arrive kind b) = if ltb 3 kind then 0 else 1
 arrivals (read n place buffer) = 0
-arrivals (settings l) = 0
+arrivals (takeSettings l) = 0
 arrivals reset = 0
 arrivals state = 0
-arrivals (line c) = 0
+arrivals (transmit c) = 0
 
 -- ONE PORT
 
@@ -195,10 +195,10 @@ module _ {A : Type 0} where
   abbrev pub arrivalItem : Channel A → ChannelCall → Option Item
   arrivalItem h (arrive k b) = itemOf (arrival (h .settings) (h .flags) k b .ruling)
   arrivalItem h (read n place buffer) = none
-  arrivalItem h (settings l) = none
+  arrivalItem h (takeSettings l) = none
   arrivalItem h reset = none
   arrivalItem h state = none
-  arrivalItem h (line c) = none
+  arrivalItem h (transmit c) = none
 
   -- a loss comes before anything more is stored
   abbrev pub lossNext : List (Entry A) → Bool

@@ -13,7 +13,7 @@ use lib.ListN.{length, getD, take, set}
 use borrow.Author.Tests.{le-leb, lt-leb, leb-true, ltb-true, ltb-false}
 use Rattle.paper.specs.Choice.{if_then_else_}
 use Rattle.paper.specs.Frames.{between, digit, joined, bytesOf, capital, hexadecimal, newline}
-use Rattle.hexadecimal.specs.Line.{valueOr16, from, digitTable}
+use Rattle.hexadecimal.specs.LineSoFar.{valueOr16, from, digitTable}
 
 -- DIGITS
 

@@ -16,10 +16,10 @@ use Rattle.paper.specs.Choice.{if_then_else_}
 use Rattle.paper.specs.Settings.{Size}
 use Rattle.paper.specs.Card.{Card, Call}
 use Rattle.paper.specs.Frames.{digit, bytesOf, capital, hexadecimal, callOf, lineCall, newline, replied, grown, lines, replies}
-use Rattle.hexadecimal.specs.Line.{valueOr16, held, Fits, left}
+use Rattle.hexadecimal.specs.LineSoFar.{valueOr16, held, Fits, left}
 use Rattle.hexadecimal.specs.Steps.{counted, Keeps}
 use Rattle.hexadecimal.specs.Written.{Wrote}
-use Rattle.hexadecimal.specs.declared.Line.{Line}
+use Rattle.hexadecimal.specs.declared.LineSoFar.{LineSoFar}
 use Rattle.hexadecimal.proofs.Bytes.{digit-capital, capital-newline, digit-newline, value-digit, value-none}
 use Rattle.hexadecimal.proofs.Bytes.{below-set, same-digit, no-digit, odd-count, read-back}
 
@@ -131,7 +131,7 @@ module _ (k last : ℕ) (frame : List ℕ) where
       rw (le-leb (2 * k + 1) 68 (omega arith), half, over)
 
 -- no frame
-over-held : (line : Line) (frame : List ℕ) → 68 < line .digits → held line frame ≡ 0 ∷ []
+over-held : (line : LineSoFar) (frame : List ℕ) → 68 < line .digits → held line frame ≡ 0 ∷ []
 unfolding held
 over-held line frame h = rw (lt-leb (line .digits) 68 h)
 
@@ -139,7 +139,7 @@ plain-choice : (t : Bool) (a b : List ℕ) → Plain a → Plain b → Plain (if
 plain-choice true a b p q = p
 plain-choice false a b p q = q
 
-plain-held : (line : Line) (frame : List ℕ) → Plain (held line frame)
+plain-held : (line : LineSoFar) (frame : List ℕ) → Plain (held line frame)
 unfolding held
 plain-held line frame =
     let bytes = take (line .digits / 2) frame in
@@ -177,7 +177,7 @@ held-digit d last v frame h l w room = go (halved d) h
         rw (half, next, even-held (suc k) v (set frame k byte) (omega arith), odd-held k last frame (omega arith))
         (rw (more, hexadecimal-append, high, low, append-assoc))
 
-module _ {line : Line} {frame : List ℕ} (fits : Fits line frame) where
+module _ {line : LineSoFar} {frame : List ℕ} (fits : Fits line frame) where
   -- one digit more
   fits-digit : (v : ℕ) → line .digits < 68 → v ≤ 15 → Fits (counted (line .digits + 1) v) (set frame (line .digits / 2) (line .last * 16 + v))
   fits-digit v h w =
@@ -234,21 +234,21 @@ module _ {line : Line} {frame : List ℕ} (fits : Fits line frame) where
 
 -- WHAT IS LEFT TO WRITE AT A LINE'S START AND END
 
-pub held-empty : (line : Line) (frame : List ℕ) → line .digits ≡ 0 → held line frame ≡ []
+pub held-empty : (line : LineSoFar) (frame : List ℕ) → line .digits ≡ 0 → held line frame ≡ []
 unfolding held
 held-empty line frame e = rw e
 
-pub left-start : (z : Size) (K : Card Unit) (line : Line) (frame rest : List ℕ) → line .digits ≡ 0
+pub left-start : (z : Size) (K : Card Unit) (line : LineSoFar) (frame rest : List ℕ) → line .digits ≡ 0
     → left z K line frame rest ≡ replies z K (lines rest)
 unfolding left
 left-start z K line frame rest e = rw (held-empty line frame e)
 
-pub left-newline : (z : Size) (K : Card Unit) (line : Line) (frame rest : List ℕ)
+pub left-newline : (z : Size) (K : Card Unit) (line : LineSoFar) (frame rest : List ℕ)
     → left z K line frame (newline ∷ rest) ≡ replies z K (held line frame ∷ lines rest)
 unfolding left
 left-newline z K line frame rest = ap (replies z K) (ends (held line frame) rest (plain-held line frame))
 
-held-some : (line : Line) (frame : List ℕ) → Fits line frame → line .digits ≢ 0 → 0 < length (held line frame)
+held-some : (line : LineSoFar) (frame : List ℕ) → Fits line frame → line .digits ≢ 0 → 0 < length (held line frame)
 held-some line frame fits e = ⊎-elim (λ z. absurd (e z)) go (eq-zero-or-pos (line .digits))
   where
     go : 0 < line .digits → 0 < length (held line frame)
@@ -259,7 +259,7 @@ held-some line frame fits e = ⊎-elim (λ z. absurd (e z)) go (eq-zero-or-pos (
         (eq-or-lt-of-le (fits .digits))
 
 -- "A last line without its newline counts"
-pub left-last : (z : Size) (K : Card Unit) (line : Line) (frame : List ℕ) → Fits line frame → line .digits ≢ 0
+pub left-last : (z : Size) (K : Card Unit) (line : LineSoFar) (frame : List ℕ) → Fits line frame → line .digits ≢ 0
     → left z K line frame (newline ∷ []) ≡ left z K line frame []
 unfolding left
 left-last z K line frame fits e =
@@ -267,12 +267,12 @@ left-last z K line frame fits e =
     ∙ rw (append-nil (held line frame), last-line (held line frame) (plain-held line frame) (held-some line frame fits e))
 
 -- the call of a line that has ended
-pub ended-call : (z : Size) (line : Line) (frame : List ℕ) → Fits line frame
+pub ended-call : (z : Size) (line : LineSoFar) (frame : List ℕ) → Fits line frame
     → lineCall z (held line frame) ≡ (if eqb (line .digits % 2) 1 then none else callOf z (take (line .digits / 2) frame))
 unfolding lineCall
 ended-call z line frame fits = ⊎-elim none-left (go (line .last) (halved (line .digits))) (eq-or-lt-of-le (fits .digits))
   where
-    CallIs : Line → Type 0
+    CallIs : LineSoFar → Type 0
     CallIs line =
         lineCall z (held line frame) ≡ (if eqb (line .digits % 2) 1 then none else callOf z (take (line .digits / 2) frame))
 

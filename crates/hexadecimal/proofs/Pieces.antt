@@ -11,9 +11,9 @@ use lib.Bits.{bitOr}
 use lib.ListN.{length, getD, drop, set, length-set}
 use lib.Seq.{set-set, drop-cons}
 use Rattle.paper.specs.Frames.{digit, newline}
-use Rattle.hexadecimal.specs.Line.{valueOr16, from, Fits, left, Gathers}
+use Rattle.hexadecimal.specs.LineSoFar.{valueOr16, from, Fits, left, Gathers}
 use Rattle.hexadecimal.specs.Steps.{counted, Keeps, Reached, Paired, Follows}
-use Rattle.hexadecimal.specs.declared.Line.{Line}
+use Rattle.hexadecimal.specs.declared.LineSoFar.{LineSoFar}
 use Rattle.hexadecimal.specs.declared.Cut.{Cut}
 use Rattle.hexadecimal.proofs.Bytes.{or-above}
 use Rattle.hexadecimal.proofs.Laws.{even-held, keeps-value, left-newline}
@@ -21,13 +21,13 @@ use Rattle.hexadecimal.proofs.Laws.{even-held, keeps-value, left-newlin
 one : (s : List ℕ) (i : ℕ) → i < length s → drop i s ≡ getD s i 0 ∷ drop (i + 1) s
 one s i h = rw (add-one, drop-cons s i 0)
 
-pub reached-start : {piece : List ℕ} {from : ℕ} {line : Line} {frame : List ℕ} → from ≤ length piece → Fits line frame
+pub reached-start : {piece : List ℕ} {from : ℕ} {line : LineSoFar} {frame : List ℕ} → from ≤ length piece → Fits line frame
     → Reached piece from line frame from line frame
 reached-start h fits = record { same = λ z K rest. refl; fits = fits; start = omega arith; within = h }
 
-module _ {piece : List ℕ} {from : ℕ} {line : Line} {before : List ℕ} {at : ℕ} {now : Line} {frame : List ℕ}
+module _ {piece : List ℕ} {from : ℕ} {line : LineSoFar} {before : List ℕ} {at : ℕ} {now : LineSoFar} {frame : List ℕ}
     (reached : Reached piece from line before at now frame) where
-  pub reached-more : at < length piece → {r : Line} {after : List ℕ} → Keeps (getD piece at 0) now frame r after
+  pub reached-more : at < length piece → {r : LineSoFar} {after : List ℕ} → Keeps (getD piece at 0) now frame r after
       → Reached piece from line before (at + 1) r after
   reached-more h keeps =
       record {
@@ -72,7 +72,7 @@ module _ {piece : List ℕ} {from : ℕ} {line : Line} {before : List ℕ} {at :
 fits-last : {d l : ℕ} {frame : List ℕ} (m : ℕ) → m < 16 → Fits (counted d l) frame → Fits (counted d m) frame
 fits-last m w fits = record { digits = fits .digits; last = w; room = fits .room; bytes = fits .bytes }
 
-reached-last : {piece : List ℕ} {from : ℕ} {line : Line} {before : List ℕ} {at : ℕ} (k l m : ℕ) {frame : List ℕ} → k ≤ 34 → m < 16
+reached-last : {piece : List ℕ} {from : ℕ} {line : LineSoFar} {before : List ℕ} {at : ℕ} (k l m : ℕ) {frame : List ℕ} → k ≤ 34 → m < 16
     → Reached piece from line before at (counted (2 * k) l) frame → Reached piece from line before at (counted (2 * k) m) frame
 unfolding left
 reached-last k l m {frame} h w reached =
@@ -116,13 +116,13 @@ paired-more {piece} {from} {at} {before} {k} {frame} high low paired few e withi
         reached-last (k + 1) low last (omega arith) w (rw (half-odd, half, set-set, next, on) at both)
 
 -- a piece is read by pairs first where the line is at its start
-pub gathers-pairs : {piece : List ℕ} {from : ℕ} {line : Line} {before : List ℕ} {count : ℕ} {mid after : List ℕ} {r : Cut}
+pub gathers-pairs : {piece : List ℕ} {from : ℕ} {line : LineSoFar} {before : List ℕ} {count : ℕ} {mid after : List ℕ} {r : Cut}
     → line .digits ≡ 0 → Fits line before → from < length piece → Paired piece from before count mid
     → Follows piece (from + 2 * count) (counted (2 * count) (line .last)) mid r after → Gathers piece from line before r after
 gathers-pairs {line = line} e fits h paired follows =
     let start : counted 0 (line .last) ≡ line = ap (λ (d : ℕ). counted d (line .last)) (sym e) in
     reached-follows (rw start at (paired .reached (line .last) (fits .last))) h follows
 
-pub gathers-follow : {piece : List ℕ} {from : ℕ} {line : Line} {before after : List ℕ} {r : Cut} → Fits line before → from < length piece
+pub gathers-follow : {piece : List ℕ} {from : ℕ} {line : LineSoFar} {before after : List ℕ} {r : Cut} → Fits line before → from < length piece
     → Follows piece from line before r after → Gathers piece from line before r after
 gathers-follow fits h follows = reached-follows (reached-start (omega arith) fits) h follows

@@ -1,3 +1,3 @@
-pub mod Line
+pub mod LineSoFar
 pub mod Steps
 pub mod Written

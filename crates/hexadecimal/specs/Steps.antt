@@ -5,21 +5,21 @@ use Prim.Native.Nat.{ℕ, _+_, _*_, _<_, _≤_}
 use lib.ListN.{length, drop}
 use Rattle.paper.specs.Settings.{Size}
 use Rattle.paper.specs.Card.{Card}
-use Rattle.hexadecimal.specs.Line.{mostBytes, Fits, left, leftAfter}
-use Rattle.hexadecimal.specs.declared.Line.{Line}
+use Rattle.hexadecimal.specs.LineSoFar.{mostBytes, Fits, left, leftAfter}
+use Rattle.hexadecimal.specs.declared.LineSoFar.{LineSoFar}
 use Rattle.hexadecimal.specs.declared.Cut.{Cut}
 
 -- One character more, which is no newline
-pub record Keeps (character : ℕ) (line : Line) (before : List ℕ) (r : Line) (after : List ℕ) : Type 0 where
+pub record Keeps (character : ℕ) (line : LineSoFar) (before : List ℕ) (r : LineSoFar) (after : List ℕ) : Type 0 where
   pub same : (z : Size) (K : Card Unit) (rest : List ℕ) → left z K line before (character ∷ rest) ≡ left z K r after rest
   pub fits : Fits r after
 
 -- so many digits of a line, and its last one
-abbrev pub counted : ℕ → ℕ → Line
+abbrev pub counted : ℕ → ℕ → LineSoFar
 counted digits last = record { digits = digits; last = last }
 
 -- A line read on in a piece, from one place to another
-pub record Reached (piece : List ℕ) (from : ℕ) (line : Line) (before : List ℕ) (at : ℕ) (now : Line) (after : List ℕ) : Type 0 where
+pub record Reached (piece : List ℕ) (from : ℕ) (line : LineSoFar) (before : List ℕ) (at : ℕ) (now : LineSoFar) (after : List ℕ) : Type 0 where
   pub same : (z : Size) (K : Card Unit) (rest : List ℕ) → left z K line before (drop from piece ++ rest) ≡ left z K now after (drop at piece ++ rest)
   pub fits : Fits now after
   pub start : from ≤ at
@@ -32,7 +32,7 @@ pub record Paired (piece : List ℕ) (from : ℕ) (before : List ℕ) (count : �
   pub few : count ≤ mostBytes
 
 -- A line read on up to its newline, or the piece's end
-pub record Follows (piece : List ℕ) (from : ℕ) (line : Line) (before : List ℕ) (r : Cut) (after : List ℕ) : Type 0 where
+pub record Follows (piece : List ℕ) (from : ℕ) (line : LineSoFar) (before : List ℕ) (r : Cut) (after : List ℕ) : Type 0 where
   pub same : (z : Size) (K : Card Unit) (rest : List ℕ)
       → left z K line before (drop from piece ++ rest) ≡ leftAfter (r .ended) z K (r .line) after (drop (r .at) piece ++ rest)
   pub fits : Fits (r .line) after

@@ -5,7 +5,7 @@ ghost use mathlib.Core.Logic.{_≢_};
 ghost use Prim.Native.Nat.{_+_, _*_, _<_, _≤_};
 ghost use lib.ListN.{length};
 ghost use Rattle.paper.specs.Frames as paper;
-ghost use Rattle.hexadecimal.specs.Line.{valueOr16, digitTable, mostBytes, Fits, Gathers};
+ghost use Rattle.hexadecimal.specs.LineSoFar.{valueOr16, digitTable, mostBytes, Fits, Gathers};
 ghost use Rattle.hexadecimal.specs.Steps.{counted, Keeps, Paired, Follows};
 ghost use Rattle.hexadecimal.specs.Written.{Wrote};
 
@@ -21,7 +21,7 @@ const NO_FRAME: usize = 69;
 const NEWLINE: u8 = 10;
 
 // What is known of a line so far, beside the bytes of its frame: how many digits it has, 69 where it is no frame, and its last digit.
-pub struct Line {
+pub struct LineSoFar {
     pub digits: usize,
     pub last: u8,
 }
@@ -29,7 +29,7 @@ pub struct Line {
 // Where reading stopped in a piece, the line there, and whether its newline was read.
 pub struct Cut {
     pub at: usize,
-    pub line: Line,
+    pub line: LineSoFar,
     pub ended: bool,
 }
 
@@ -69,7 +69,7 @@ fn value(digits: &[u8], character: u8) -> u8
 
 // One character more of a line: a digit joins its frame, and any other character, or one digit too many, leaves no frame. A digit at an even
 // place stands in the frame's byte only until the next one comes.
-fn keep(digits: &[u8], character: u8, line: Line, frame: &mut [u8]) -> Line
+fn keep(digits: &[u8], character: u8, line: LineSoFar, frame: &mut [u8]) -> LineSoFar
     requires { ⌜ now digits ≡ digitTable ⌝ }
     requires { ⌜ Fits line (now frame) × (character ≢ paper.newline) ⌝ }
     ensures { λ r. ⌜ Keeps character line (now (frame .entry)) r (now (frame .exit)) ⌝ }
@@ -78,19 +78,19 @@ fn keep(digits: &[u8], character: u8, line: Line, frame: &mut [u8]) -> Line
     let last = line.last;
     let value = value(digits, character);
     if 15 < value {
-        return Line {
+        return LineSoFar {
             digits: NO_FRAME,
             last,
         };
     }
     if MOST_DIGITS <= count {
-        return Line {
+        return LineSoFar {
             digits: NO_FRAME,
             last,
         };
     }
     frame[count / 2] = last * 16 + value;
-    Line {
+    LineSoFar {
         digits: count + 1,
         last: value,
     }
@@ -129,7 +129,7 @@ fn pairs(digits: &[u8], piece: &[u8], from: usize, frame: &mut [u8]) -> usize
 }
 
 // The characters from a place on, one by one, up to a newline or the piece's end.
-fn follow(digits: &[u8], piece: &[u8], from: usize, line: Line, frame: &mut [u8]) -> Cut
+fn follow(digits: &[u8], piece: &[u8], from: usize, line: LineSoFar, frame: &mut [u8]) -> Cut
     requires { ⌜ now digits ≡ digitTable ⌝ }
     requires { ⌜ (from ≤ length (now piece)) × Fits line (now frame) ⌝ }
     ensures { λ r. ⌜ Follows (now (piece .entry)) from line (now (frame .entry)) r (now (frame .exit)) ⌝ }
@@ -156,14 +156,14 @@ fn follow(digits: &[u8], piece: &[u8], from: usize, line: Line, frame: &mut [u8]
 }
 
 // Reads on in a piece up to a newline or the piece's end: at a line's start by pairs, as far as they go.
-pub fn gather(digits: &[u8], piece: &[u8], from: usize, line: Line, frame: &mut [u8]) -> Cut
+pub fn gather(digits: &[u8], piece: &[u8], from: usize, line: LineSoFar, frame: &mut [u8]) -> Cut
     requires { ⌜ now digits ≡ digitTable ⌝ }
     requires { ⌜ (from < length (now piece)) × Fits line (now frame) ⌝ }
     ensures { λ r. ⌜ Gathers (now (piece .entry)) from line (now (frame .entry)) r (now (frame .exit)) ⌝ }
 {
     if line.digits == 0 {
         let count = pairs(digits, piece, from, frame);
-        let begun = Line {
+        let begun = LineSoFar {
             digits: 2 * count,
             last: line.last,
         };

@@ -15,7 +15,7 @@ use Rattle.paper.specs.declared.Refusal.the-variants.{BadChannel, BadKind, TooM
 use Rattle.paper.specs.declared.Refusal.the-variants.{SpecialWaits, BrokenStream, ShortOutput, BadCts, BadLine}
 use Rattle.paper.proofs.Refusal as refusals
 use Rattle.hexadecimal.specs.Written.{Wrote}
-use Rattle.printing.specs.Line.{refusalNumber, lineOf}
+use Rattle.printing.specs.Printed.{refusalNumber, lineOf}
 
 pub wrote-then : {before between after s t : List ℕ} {at middle end : ℕ} → Wrote before at s between middle → Wrote between middle t after end
     → Wrote before at (s ++ t) after end

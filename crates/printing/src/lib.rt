@@ -6,13 +6,13 @@ ghost use lib.ListN.{length};
 ghost use Rattle.paper.specs.Choice.{if_then_else_};
 ghost use Rattle.paper.specs.Numbers.{fateNumber, numbers};
 ghost use Rattle.hexadecimal.specs.Written.{Wrote};
-ghost use Rattle.printing.specs.Line.{refusalNumber, lineOf, SmallRefusal, SmallRead};
+ghost use Rattle.printing.specs.Printed.{refusalNumber, lineOf, Room, SmallRefusal, SmallRead};
 use paper::Answer;
 use paper::Fate;
 use paper::Refusal;
 
-// The longest line: 00, characters, flagged and 36 bytes, two capitals each, and a newline.
-pub const LONGEST: usize = 79;
+// The longest line: 00, characters, flagged and the bytes of a read, two capitals each, and a newline.
+pub const LONGEST: usize = 2 * (3 + paper::LENT) + 1;
 
 const NEWLINE: u8 = 10;
 
@@ -63,7 +63,7 @@ pub fn refusal_number(refusal: Refusal) -> u8
 
 // A refusal's line: "Answers begin with 00 or the refusal number (5 is followed by its field)", and 8 by "the place of the offending FF".
 pub fn put_refused(out: &mut [u8], at: usize, refusal: Refusal) -> usize
-    requires { ⌜ (at + 79 ≤ length (now out)) × SmallRefusal refusal ⌝ }
+    requires { ⌜ Room at (now out) × SmallRefusal refusal ⌝ }
     ensures { λ r. ⌜ Wrote (now (out .entry)) at (lineOf (numbers (Answer.Refused refusal) [])) (now (out .exit)) r ⌝ }
 {
     let number = refusal_number(refusal);
@@ -94,7 +94,7 @@ pub fn put_handed(
     bytes: usize,
     lent: &[u8],
 ) -> usize
-    requires { ⌜ (at + 79 ≤ length (now out)) × SmallRead characters flagged bytes (now lent) ⌝ }
+    requires { ⌜ Room at (now out) × SmallRead characters flagged bytes (now lent) ⌝ }
     ensures { λ r. ⌜ Wrote (now (out .entry)) at
         (lineOf (numbers (Answer.Handed characters flagged bytes) (now (lent .entry)))) (now (out .exit)) r ⌝ }
 {
@@ -105,7 +105,7 @@ pub fn put_handed(
 
 // "01 and the byte sent"
 pub fn put_sent(out: &mut [u8], at: usize, byte: u8) -> usize
-    requires { ⌜ at + 79 ≤ length (now out) ⌝ }
+    requires { ⌜ Room at (now out) ⌝ }
     ensures { λ r. ⌜ Wrote (now (out .entry)) at (lineOf (numbers (Answer.Sent byte) [])) (now (out .exit)) r ⌝ }
 {
     put_numbers(out, at, &[0, 1, byte])
@@ -127,7 +127,7 @@ pub fn put_shown(
     stopped: bool,
     losses: u16,
 ) -> usize
-    requires { ⌜ (at + 79 ≤ length (now out)) × ((waiting < 256) × (sending < 256)) ⌝ }
+    requires { ⌜ Room at (now out) × ((waiting < 256) × (sending < 256)) ⌝ }
     ensures { λ r. ⌜ Wrote (now (out .entry)) at
         (lineOf (numbers (Answer.Shown waiting sending stopped losses) [])) (now (out .exit)) r ⌝ }
 {

@@ -18,7 +18,7 @@ use Rattle.arrays.proofs.Laws.{padded-length, padded-put, padded-set, padded-dr
 use Rattle.images.specs.Code.{kindOf, byteOf, itemIn, itemsIn}
 use Rattle.images.proofs.Laws.{item-in}
 use Rattle.queue.specs.declared.Queue.{Queue}
-use Rattle.queue.specs.Held.{Slot, kind, byte, flag, queueOf, slotsIn, queueIn, Sound, ones}
+use Rattle.queue.specs.Held.{Slot, kind, byte, flag, queueOf, slotsIn, queueIn, SoundIn, ones}
 
 -- THE RECORD OF A QUEUE HOLDS IT
 
@@ -42,12 +42,12 @@ unfolding queueIn queueOf
 queue-in places q =
     rw (take-part kind places (q .slots), take-part byte places (q .slots), take-part flag places (q .slots), slots-in (q .slots))
 
-pub count-is : (places d : ℕ) (q : Queue) → Sound places d q → q .count ≡ length (queueIn q .slots)
+pub count-is : (places d : ℕ) (q : Queue) → SoundIn places d q → q .count ≡ length (queueIn q .slots)
 unfolding queueOf
 count-is places d q s = ap (λ (x : Queue). x .count) (s .is)
 
 -- each array has all its places
-module _ (places d : ℕ) (q : Queue) (s : Sound places d q) (fits : d ≤ places) where
+module _ (places d : ℕ) (q : Queue) (s : SoundIn places d q) (fits : d ≤ places) where
   array-long : (f : Slot → ℕ) (array : Queue → List ℕ) → array (queueOf places (queueIn q)) ≡ padded places (map f (queueIn q .slots))
       → length (array q) ≡ places
   array-long f array e =
@@ -94,7 +94,7 @@ put-law places q i h =
     let e : length (l ++ x ∷ []) ≡ length l + 1 = length-append l (x ∷ []) in
     rw (part-put kind places l x h, part-put byte places l x h, part-put flag places l x h, e)
 
-pub put-sound : (places d : ℕ) (q : Queue) → Sound places d q → (i : Item) → q .count < places → put q i ≡ queueOf places (stored i tt (queueIn q))
+pub put-sound : (places d : ℕ) (q : Queue) → SoundIn places d q → (i : Item) → q .count < places → put q i ≡ queueOf places (stored i tt (queueIn q))
 put-sound places d q s i h =
     ap (λ (x : Queue). put x i) (s .is) ∙ put-law places (queueIn q) i (omega (arith, count-is places d q s))
 
@@ -130,7 +130,7 @@ lose-law places (x ∷ l) losses n h =
       length-flagNewest (x ∷ l),
     )
 
-pub lose-sound : (places d : ℕ) (q : Queue) → Sound places d q → (n : ℕ) → n ≡ min (suc (q .losses)) 65535 → 0 < q .count
+pub lose-sound : (places d : ℕ) (q : Queue) → SoundIn places d q → (n : ℕ) → n ≡ min (suc (q .losses)) 65535 → 0 < q .count
     → lose q n ≡ queueOf places (overrun (queueIn q))
 unfolding queueIn
 lose-sound places d q s n e h =
@@ -169,7 +169,7 @@ close-law places n q h k =
     let l = q .slots in
     rw (part-drop kind places n l h k, part-drop byte places n l h k, part-drop flag places n l h k, length-drop)
 
-pub close-sound : (places d n : ℕ) (q : Queue) → Sound places d q → n ≤ q .count → d ≤ places → close n q ≡ queueOf places (removed n (queueIn q))
+pub close-sound : (places d n : ℕ) (q : Queue) → SoundIn places d q → n ≤ q .count → d ≤ places → close n q ≡ queueOf places (removed n (queueIn q))
 close-sound places d n q s h m =
     ap (close n) (s .is) ∙ close-law places n (queueIn q) (omega (arith, count-is places d q s)) (omega (arith, s .waiting))
 
@@ -213,12 +213,12 @@ front f places n l =
     let h : min n (length l) ≤ length (map f l) = rw length-map (omega arith) in
     rw (take-append-le (min n (length l)) (map f l) (replicate (places - length (map f l)) 0) h, map-take, take-min)
 
-pub queue-losses : (places d : ℕ) (q : Queue) → Sound places d q → q .losses ≤ 65535
+pub queue-losses : (places d : ℕ) (q : Queue) → SoundIn places d q → q .losses ≤ 65535
 unfolding queueIn
 queue-losses places d q s = s .losses
 
 -- k of n leave a sound record
-module _ (places d n : ℕ) (q : Queue) (s : Sound places d q) (k : ℕ) (e : k ≡ min n (q .count)) where
+module _ (places d n : ℕ) (q : Queue) (s : SoundIn places d q) (k : ℕ) (e : k ≡ min n (q .count)) where
   count-min : k ≡ min n (length (queueIn q .slots))
   count-min = e ∙ ap (min n) (count-is places d q s)
 

@@ -5,7 +5,7 @@ use Prim.Native.Nat.{ℕ, suc, _≤_}
 use lib.Dec.{eqb}
 use lib.ListN.{length, take}
 use Rattle.paper.specs.Choice.{if_then_else_}
-use Rattle.paper.specs.Settings.{twelve}
+use Rattle.paper.specs.Settings.{cardSize}
 use Rattle.paper.specs.Queue as model
 use Rattle.paper.specs.Stream.{images}
 use Rattle.paper.specs.declared.Ruling.{Ruling}
@@ -15,9 +15,12 @@ use Rattle.queue.specs.declared.Queue.{Queue}
 use Rattle.queue.specs.declared.Placed.{Placed}
 use Rattle.queue.specs.declared.Handed.{Handed}
 
--- the arrays have as many places as a queue holds items; laws keep the two numbers apart
+-- The arrays have as many places as a queue holds items; laws keep the two numbers apart.
+abbrev pub places : ℕ
+places = cardSize .depth
+
 abbrev pub depth : ℕ
-depth = twelve .depth
+depth = cardSize .depth
 
 -- The card's own slots name nothing
 abbrev pub Slot : Type 0
@@ -61,10 +64,14 @@ queueIn q =
     }
 
 -- A record is sound if it is the one that holds its queue, within the bounds.
-pub record Sound (places d : ℕ) (q : Queue) : Type 0 where
+pub record SoundIn (places d : ℕ) (q : Queue) : Type 0 where
   pub is : q ≡ queueOf places (queueIn q)
   pub waiting : length (queueIn q .slots) ≤ d
   pub losses : queueIn q .losses ≤ 65535
+
+-- a sound record of this card's size
+abbrev pub Sound : Queue → Type 0
+Sound q = SoundIn places depth q
 
 -- what an arrival's ruling does
 unfoldable pub placing : (places d : ℕ) → Queue → Ruling → Placed

@@ -6,7 +6,7 @@ ghost use Rattle.paper.specs.Queue as model;
 ghost use Rattle.paper.specs.Queue.{oldest, itemsOf};
 ghost use Rattle.paper.specs.Stream.{images};
 ghost use Rattle.paper.specs.Channel.{written};
-ghost use Rattle.queue.specs.Held.{depth, empty, queueOf, queueIn, Sound, placing, ones, handing};
+ghost use Rattle.queue.specs.Held.{places, depth, empty, queueOf, queueIn, Sound, placing, ones, handing};
 use paper::Fate;
 use paper::Item;
 use paper::Ruling;
@@ -53,11 +53,11 @@ fn count_flags(flags: &[u8]) -> usize
 }
 
 impl Queue {
-    pub const DEPTH: usize = 12;
+    pub const DEPTH: usize = paper::DEPTH;
 
     // "queues empty, ... loss count 0"
     pub fn fresh() -> Queue
-        ensures { λ r. ⌜ r ≡ queueOf depth empty ⌝ }
+        ensures { λ r. ⌜ r ≡ queueOf places empty ⌝ }
     {
         Queue {
             kinds: [0u8; Queue::DEPTH],
@@ -70,8 +70,8 @@ impl Queue {
 
     // One more item, the newest, without the overrun flag.
     fn store(mut self, item: Item) -> Queue
-        requires { ⌜ (Sound depth depth self) × (self .count < depth) ⌝ }
-        ensures { λ r. ⌜ r ≡ queueOf depth (model.stored item tt (queueIn self)) ⌝ }
+        requires { ⌜ (Sound self) × (self .count < depth) ⌝ }
+        ensures { λ r. ⌜ r ≡ queueOf places (model.stored item tt (queueIn self)) ⌝ }
     {
         let newest = self.count;
         self.kinds[newest] = images::kind_of(item);
@@ -83,8 +83,8 @@ impl Queue {
 
     // "the new one is lost, the newest waiting item gets the overrun flag ... and the loss count rises by 1, staying at 65,535"
     fn overrun(mut self) -> Queue
-        requires { ⌜ (Sound depth depth self) × (0 < self .count) ⌝ }
-        ensures { λ r. ⌜ r ≡ queueOf depth (model.overrun (queueIn self)) ⌝ }
+        requires { ⌜ (Sound self) × (0 < self .count) ⌝ }
+        ensures { λ r. ⌜ r ≡ queueOf places (model.overrun (queueIn self)) ⌝ }
     {
         let newest = self.count - 1;
         self.flags[newest] = 1;
@@ -97,8 +97,8 @@ impl Queue {
 
     // "If 12 items wait, the new one is lost"
     fn place_item(self, item: Item) -> Placed
-        requires { ⌜ Sound depth depth self ⌝ }
-        ensures { λ r. ⌜ r ≡ placing depth depth self (Ruling.Store item) ⌝ }
+        requires { ⌜ Sound self ⌝ }
+        ensures { λ r. ⌜ r ≡ placing places depth self (Ruling.Store item) ⌝ }
     {
         if self.count < Queue::DEPTH {
             return Placed {
@@ -114,8 +114,8 @@ impl Queue {
 
     // What an arrival's ruling does to the queue.
     pub fn place(self, ruling: Ruling) -> Placed
-        requires { ⌜ Sound depth depth self ⌝ }
-        ensures { λ r. ⌜ r ≡ placing depth depth self ruling ⌝ }
+        requires { ⌜ Sound self ⌝ }
+        ensures { λ r. ⌜ r ≡ placing places depth self ruling ⌝ }
     {
         match ruling {
             Ruling::Store(item) => self.place_item(item),
@@ -128,8 +128,8 @@ impl Queue {
 
     // The oldest n leave.
     fn remove(self, n: usize) -> Queue
-        requires { ⌜ (Sound depth depth self) × (n ≤ self .count) ⌝ }
-        ensures { λ r. ⌜ r ≡ queueOf depth (model.removed n (queueIn self)) ⌝ }
+        requires { ⌜ (Sound self) × (n ≤ self .count) ⌝ }
+        ensures { λ r. ⌜ r ≡ queueOf places (model.removed n (queueIn self)) ⌝ }
     {
         let kinds_before = self.kinds;
         let bytes_before = self.bytes;
@@ -151,8 +151,8 @@ impl Queue {
 
     // "removes the oldest min(n, waiting) items and writes their images into the lent buffer from a given place on"
     pub fn hand_over(self, n: usize, buffer: &mut [u8], place: usize) -> Handed
-        requires { ⌜ (Sound depth depth self) × (place + 3 * n ≤ length (now buffer)) ⌝ }
-        ensures { λ r. ⌜ (r ≡ handing depth self n)
+        requires { ⌜ (Sound self) × (place + 3 * n ≤ length (now buffer)) ⌝ }
+        ensures { λ r. ⌜ (r ≡ handing places self n)
             × (now (buffer .exit) ≡ written (now (buffer .entry)) place (images (itemsOf (oldest n (queueIn self))))) ⌝ }
     {
         let characters = arrays::least(n, self.count);

@@ -4,12 +4,10 @@ use mathlib.Core.Path.{_≡_, refl, sym, subst}
 use Prim.Native.Nat.{ℕ, zero, suc, _≤_, _<_}
 use native.Mathlib.Omega.{arith}
 use lib.ListN.{length, take, getD, set, replicate}
-use Rattle.paper.specs.Settings.{twelve}
-use Rattle.queue.specs.Held.{depth}
 use Rattle.card.specs.declared.Card.{Card}
 use Rattle.card.specs.Held.{Sound}
-use Rattle.hexadecimal.specs.declared.Line.{Line}
-use Rattle.hexadecimal.specs.Line.{Fits}
+use Rattle.hexadecimal.specs.declared.LineSoFar.{LineSoFar}
+use Rattle.hexadecimal.specs.LineSoFar.{Fits}
 use Rattle.serving.specs.declared.Served.{Served}
 use Rattle.serving.specs.Served.{Serves}
 use Rattle.serving.specs.Program.{Carried, ServedFrom, over, then-served, PieceServed}
@@ -18,11 +16,11 @@ use Rattle.serving.specs.Program.{Carried, ServedFrom, over, then-served, Piece
 pub record Begun (piece : List ℕ) (s : Carried) (at : ℕ) (t : Carried) : Type 0 where
   pub wrote : List ℕ
   pub then : (output : List ℕ) (u : Carried) → ServedFrom piece at t output u → ServedFrom piece 0 s (wrote ++ output) u
-  pub sound : Sound depth twelve (t .card)
+  pub sound : Sound (t .card)
   pub fits : Fits (t .line) (t .frame)
   pub within : at ≤ length piece
 
-pub begins : (piece : List ℕ) (s : Carried) → Sound depth twelve (s .card) → Fits (s .line) (s .frame) → Begun piece s 0 s
+pub begins : (piece : List ℕ) (s : Carried) → Sound (s .card) → Fits (s .line) (s .frame) → Begun piece s 0 s
 begins piece s sound fits = record { wrote = []; then = λ output u more. more; sound = sound; fits = fits; within = omega arith }
 
 module _ (piece : List ℕ) (s : Carried) (at : ℕ) (t : Carried) (b : Begun piece s at t) where

@@ -4,13 +4,12 @@ ghost use mathlib.Core.Bool.{true, false};
 ghost use mathlib.Core.Path.{_≡_};
 ghost use Prim.Native.Nat.{_≤_};
 ghost use lib.ListN.{length, take};
-ghost use Rattle.paper.specs.Settings.{twelve};
-ghost use Rattle.queue.specs.Held.{depth};
 ghost use Rattle.card.specs.Held.{Sound};
-ghost use Rattle.hexadecimal.specs.Line.{Fits};
+ghost use Rattle.hexadecimal.specs.LineSoFar.{Fits};
+ghost use Rattle.printing.specs.Printed.{longest};
 ghost use Rattle.serving.specs.Program.{PieceServed, missing};
 use card::Card;
-use hexadecimal::Line;
+use hexadecimal::LineSoFar;
 use serving::Spot;
 
 // Whether a call failed only because it was interrupted. An output that was closed is no news; any other failure is said.
@@ -67,14 +66,14 @@ fn write_text(text: &[u8]) -> bool {
 // What is carried from piece to piece, and whether the output is still open.
 struct Carried {
     card: Card,
-    line: Line,
+    line: LineSoFar,
     open: bool,
 }
 
 // Serves a piece to its end, and writes out what is answered whenever there is no room for more, and at the end.
 fn answer(before: Carried, piece: &[u8], frame: &mut [u8], out: &mut [u8]) -> Carried
-    requires { ⌜ Sound depth twelve (before .card) × (Fits (before .line) (now frame) × (79 ≤ length (now out))) ⌝ }
-    ensures { λ r. ⌜ Sound depth twelve (r .card) × Fits (r .line) (now (frame .exit)) ⌝ }
+    requires { ⌜ Sound (before .card) × (Fits (before .line) (now frame) × (longest ≤ length (now out))) ⌝ }
+    ensures { λ r. ⌜ Sound (r .card) × Fits (r .line) (now (frame .exit)) ⌝ }
     ensures { λ r. ⌜ (r .open ≡ true → PieceServed (now (piece .entry))
         (record { card = before .card; line = before .line; frame = now (frame .entry) })
         (record { card = r .card; line = r .line; frame = now (frame .exit) })) ⌝ }
@@ -110,7 +109,7 @@ fn answer(before: Carried, piece: &[u8], frame: &mut [u8], out: &mut [u8]) -> Ca
 }
 
 // "A last line without its newline counts": the newline that is missing where the input ends within a line; answers how many bytes that makes.
-fn complete(line: Line, piece: &mut [u8]) -> usize
+fn complete(line: LineSoFar, piece: &mut [u8]) -> usize
     requires { ⌜ 1 ≤ length (now piece) ⌝ }
     ensures { λ r. ⌜ (r ≤ length (now (piece .exit))) × (take r (now (piece .exit)) ≡ missing line) ⌝ }
 {
@@ -129,7 +128,7 @@ struct Piece {
 }
 
 // The next piece; after the input's end, the newline that it may lack.
-fn next_piece(piece: &mut [u8], line: Line) -> Piece
+fn next_piece(piece: &mut [u8], line: LineSoFar) -> Piece
     requires { ⌜ 1 ≤ length (now piece) ⌝ }
     ensures { λ r. ⌜ r .long ≤ length (now (piece .exit)) ⌝ }
     ensures { λ r. ⌜ (r .failed ≡ false → r .last ≡ true → take (r .long) (now (piece .exit)) ≡ missing line) ⌝ }
@@ -163,7 +162,7 @@ fn next_piece(piece: &mut [u8], line: Line) -> Piece
 pub fn start() {
     let mut carried = Carried {
         card: Card::fresh(),
-        line: Line { digits: 0, last: 0 },
+        line: LineSoFar { digits: 0, last: 0 },
         open: true,
     };
     let mut frame = [0u8; hexadecimal::MOST];

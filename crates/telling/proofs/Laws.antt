@@ -7,7 +7,7 @@ use mir.Val.{boolByte}
 use Rattle.paper.specs.Choice.{if_then_else_}
 use Rattle.paper.specs.Numbers.{refusalNumbers}
 use Rattle.paper.specs.declared.Refusal.{Refusal}
-use Rattle.printing.specs.Line.{refusalNumber}
+use Rattle.printing.specs.Printed.{refusalNumber}
 use Rattle.telling.specs.Told.{laid}
 
 -- a refusal of two numbers

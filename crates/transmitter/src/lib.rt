@@ -4,8 +4,9 @@ ghost use mathlib.Core.Bool.{false, _&&_};
 ghost use Prim.Native.Nat.{_<_, _≤_};
 ghost use lib.Dec.{eqb};
 ghost use Rattle.paper.specs.Arrival.{NL};
-ghost use Rattle.paper.specs.Transmitter.{transmitDepth, freshTransmitter, held, specialCharacter};
+ghost use Rattle.paper.specs.Transmitter.{freshTransmitter, held, specialCharacter};
 ghost use Rattle.transmitter.specs.Held.{Sound, transmitterOf, transmitterIn, loads, sendsNext, turns, setsCts, asksSpecial};
+ghost use Rattle.transmitter.specs.Held.{withQueue, withOwed, withSpecial, withCts};
 use paper::Answer;
 use paper::Flags;
 use paper::Refusal;
@@ -39,7 +40,7 @@ impl Transmitter {
 
     // "queues empty, nothing pending, ... CTS 0"
     pub fn fresh() -> Transmitter
-        ensures { λ r. ⌜ r ≡ transmitterOf transmitDepth freshTransmitter ⌝ }
+        ensures { λ r. ⌜ r ≡ transmitterOf freshTransmitter ⌝ }
     {
         Transmitter {
             bytes: [0u8; Transmitter::DEPTH],
@@ -51,10 +52,47 @@ impl Transmitter {
         }
     }
 
+    // The same record, but for the parts that are named. With these four, no code but `fresh` lists the fields.
+    fn with_queue(
+        mut self,
+        count: usize,
+        bytes: [u8; Transmitter::DEPTH],
+        owed: bool,
+    ) -> Transmitter
+        ensures { λ r. ⌜ r ≡ withQueue count bytes owed self ⌝ }
+    {
+        self.count = count;
+        self.bytes = bytes;
+        self.owed = owed;
+        self
+    }
+
+    fn with_owed(mut self, owed: bool) -> Transmitter
+        ensures { λ r. ⌜ r ≡ withOwed owed self ⌝ }
+    {
+        self.owed = owed;
+        self
+    }
+
+    fn with_special(mut self, waits: bool, special: u8) -> Transmitter
+        ensures { λ r. ⌜ r ≡ withSpecial waits special self ⌝ }
+    {
+        self.waits = waits;
+        self.special = special;
+        self
+    }
+
+    fn with_cts(mut self, cts: bool) -> Transmitter
+        ensures { λ r. ⌜ r ≡ withCts cts self ⌝ }
+    {
+        self.cts = cts;
+        self
+    }
+
     // "takes the first min(length, room) bytes; answers that number. Load of nothing takes 0."
     pub fn load(self, bytes: &[u8]) -> Answered
-        requires { ⌜ Sound transmitDepth self ⌝ }
-        ensures { λ r. ⌜ r ≡ loads transmitDepth self (now (bytes .entry)) ⌝ }
+        requires { ⌜ Sound self ⌝ }
+        ensures { λ r. ⌜ r ≡ loads self (now (bytes .entry)) ⌝ }
     {
         let count = self.count;
         let room = Transmitter::DEPTH - count;
@@ -68,36 +106,21 @@ impl Transmitter {
         let count = count + taken;
         Answered {
             answer: Answer::Took(taken),
-            transmitter: Transmitter {
-                count,
-                bytes: queue,
-                owed: self.owed,
-                waits: self.waits,
-                special: self.special,
-                cts: self.cts,
-            },
+            transmitter: self.with_queue(count, queue, self.owed),
         }
     }
 
     // "A waiting special goes first, even when stopped or CTS is 0, even between CR and its NL. Else nothing goes if stopped, or if
     // field 9 is 1 and CTS is 0."
     pub fn turn(self, s: Settings, f: Flags) -> Answered
-        requires { ⌜ Sound transmitDepth self ⌝ }
-        ensures { λ r. ⌜ r ≡ turns transmitDepth s f self ⌝ }
+        requires { ⌜ Sound self ⌝ }
+        ensures { λ r. ⌜ r ≡ turns s f self ⌝ }
     {
         let first = self.waits;
         if first {
-            let bytes = self.bytes;
             return Answered {
                 answer: Answer::Sent(self.special),
-                transmitter: Transmitter {
-                    count: self.count,
-                    bytes,
-                    owed: self.owed,
-                    waits: false,
-                    special: 0,
-                    cts: self.cts,
-                },
+                transmitter: self.with_special(false, 0),
             };
         }
         if self.is_held(s, f) {
@@ -124,21 +147,13 @@ impl Transmitter {
 
     // "Else an owed NL; else the head of the queue; else nothing." "An owed NL is sent even if field 10 was since turned off."
     fn send_next(self, s: Settings) -> Answered
-        requires { ⌜ Sound transmitDepth self ⌝ }
-        ensures { λ r. ⌜ r ≡ sendsNext transmitDepth s self (self .owed) ⌝ }
+        requires { ⌜ Sound self ⌝ }
+        ensures { λ r. ⌜ r ≡ sendsNext s self (self .owed) ⌝ }
     {
         if self.owed {
-            let bytes = self.bytes;
             return Answered {
                 answer: Answer::Sent(NL),
-                transmitter: Transmitter {
-                    count: self.count,
-                    bytes,
-                    owed: false,
-                    waits: self.waits,
-                    special: self.special,
-                    cts: self.cts,
-                },
+                transmitter: self.with_owed(false),
             };
         }
         if self.count == 0 {
@@ -152,8 +167,8 @@ impl Transmitter {
 
     // "With field 10, a queued NL goes out as CR, leaves the queue and owes an NL."
     fn send_head(self, s: Settings) -> Answered
-        requires { ⌜ (Sound transmitDepth self) × (0 < self .count) ⌝ }
-        ensures { λ r. ⌜ r ≡ sendsNext transmitDepth s self false ⌝ }
+        requires { ⌜ (Sound self) × (0 < self .count) ⌝ }
+        ensures { λ r. ⌜ r ≡ sendsNext s self false ⌝ }
     {
         let head = self.bytes[0];
         let bytes_before = self.bytes;
@@ -161,14 +176,7 @@ impl Transmitter {
         arrays::close_up(&bytes_before, 1, &mut bytes);
         let count = self.count - 1;
         let owed = owes_nl(s, head);
-        let transmitter = Transmitter {
-            count,
-            bytes,
-            owed,
-            waits: self.waits,
-            special: self.special,
-            cts: self.cts,
-        };
+        let transmitter = self.with_queue(count, bytes, owed);
         if owed {
             return Answered {
                 answer: Answer::Sent(CR),
@@ -183,8 +191,8 @@ impl Transmitter {
 
     // Refusal 10, "CTS neither 0 nor 1"
     pub fn set_cts(self, value: u8) -> Answered
-        requires { ⌜ Sound transmitDepth self ⌝ }
-        ensures { λ r. ⌜ r ≡ setsCts transmitDepth self value ⌝ }
+        requires { ⌜ Sound self ⌝ }
+        ensures { λ r. ⌜ r ≡ setsCts self value ⌝ }
     {
         if 1 < value {
             return Answered {
@@ -192,24 +200,16 @@ impl Transmitter {
                 transmitter: self,
             };
         }
-        let bytes = self.bytes;
         Answered {
             answer: Answer::Done,
-            transmitter: Transmitter {
-                count: self.count,
-                bytes,
-                owed: self.owed,
-                waits: self.waits,
-                special: self.special,
-                cts: value == 1,
-            },
+            transmitter: self.with_cts(value == 1),
         }
     }
 
     // "the present special character s waits for the next turn"; refusal 6, "special not 1 to 4", before 7, "a special already waits"
     pub fn ask_special(self, s: Settings, number: u8) -> Answered
-        requires { ⌜ Sound transmitDepth self ⌝ }
-        ensures { λ r. ⌜ r ≡ asksSpecial transmitDepth s self number ⌝ }
+        requires { ⌜ Sound self ⌝ }
+        ensures { λ r. ⌜ r ≡ asksSpecial s self number ⌝ }
     {
         if number < 1 {
             return Answered {
@@ -229,17 +229,9 @@ impl Transmitter {
                 transmitter: self,
             };
         }
-        let bytes = self.bytes;
         Answered {
             answer: Answer::Done,
-            transmitter: Transmitter {
-                count: self.count,
-                bytes,
-                owed: self.owed,
-                waits: true,
-                special: special_character(s, number),
-                cts: self.cts,
-            },
+            transmitter: self.with_special(true, special_character(s, number)),
         }
     }
 }

@@ -1,6 +1,6 @@
 use borrow.Author.Needs.{needs}
 use borrow.Author.Tests.{eq-eqb, ne-eqb}
-use Rattle.asking.specs.Asked.{bytesIn}
+use Rattle.asking.specs.Frame.{bytesIn}
 use Rattle.asking.proofs.bytes_in.Statement.{statement}
 use Rattle.asking.proofs.bytes_in.Tie as tie
 

@@ -1,7 +1,7 @@
 -- `hexadecimal::digits` meets its contract: the constants are computed from the paper's digits.
 use mathlib.Core.Path.{refl}
 use Rattle.paper.specs.Frames.{digit}
-use Rattle.hexadecimal.specs.Line.{digitTable}
+use Rattle.hexadecimal.specs.LineSoFar.{digitTable}
 use Rattle.hexadecimal.proofs.digits.Statement.{statement}
 use Rattle.hexadecimal.proofs.digits.Tie as tie
 

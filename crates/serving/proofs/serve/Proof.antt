@@ -1,29 +1,27 @@
-use mathlib.Core.Path.{refl, sym, _∙_}
-use Prim.Native.Nat.{_-_, _<_}
+use mathlib.Core.Path.{refl}
+use Prim.Native.Nat.{_-_}
 use native.Mathlib.Omega.{arith}
 use lib.ListN.{length}
-use Rattle.asking.proofs.Frames.{asks-arrival, asks-read, asks-load, asks-turn, asks-cts, asks-special, asks-settings, asks-reset, asks-state}
-use Rattle.asking.proofs.Frames.{two-or-longer}
-use Rattle.asking.proofs.Frames.{is-pick}
-use Rattle.serving.proofs.Loop.{Standing, found, goes, open-line, channel-line, shown-line, aside-line, more-piece, more-room}
-use Rattle.serving.proofs.Loop.{fit-to-call, stops-here}
 use borrow.Author.Needs.{needs}
+use Rattle.serving.proofs.Loop.{Standing, part, on-four, two-or-longer, open-line, channel-line, shown-line, pick-line, bad-channel-line, no-frame-line}
+use Rattle.serving.proofs.Loop.{more-piece, more-room, fit-to-call, stops-here}
 use Rattle.serving.proofs.serve.Statement.{statement}
 use Rattle.serving.proofs.serve.Tie as tie
 
 abbrev Inv-loop : tie.InvT-loop
-Inv-loop piece frame₀ out₀ digits card₀ spot₀ put₀ frame out card spot put =
-    Standing piece spot₀ card₀ frame₀ out₀ (record { at = spot .at; line = spot .line; put = put }) card frame out
+Inv-loop piece frame₀ out₀ digits ports₀ place₀ spot₀ put₀ frame out ports place spot put =
+    Standing piece spot₀ (record { channels = ports₀; place = place₀ }) frame₀ out₀ (record { at = spot .at; line = spot .line; put = put })
+    (record { channels = ports; place = place }) frame out
 
 abbrev μ-loop : tie.MeasureT-loop
-μ-loop piece frame₀ out₀ digits card₀ spot₀ put₀ frame out card spot put = length piece - spot .at
+μ-loop piece frame₀ out₀ digits ports₀ place₀ spot₀ put₀ frame out ports place spot put = length piece - spot .at
 
 digits-requires : tie.Need-digits-requires Inv-loop μ-loop
 digits-requires c κs = search needs
 
 loop-holds : tie.Need-loop-holds Inv-loop μ-loop
 loop-holds c =
-    let a = c .before .before .before .before in
+    let a = c .before .before .before .before .before in
     record {
       so-far = λ rest. refl;
       sound = a .pre .0;
@@ -44,391 +42,357 @@ next-line-requires : tie.Need-next-line-requires Inv-loop μ-loop
 next-line-requires c κs =
     let s = c .before .before .before .before .before .loop .inv in
     let more = more-piece _ _ _ _ _ _ _ _ _ s _ (c .before .before .before .goes-on .ensures) (c .before .before .if1 .taken) in
-    (c .before .before .before .before .before .before .digits .ensures, (more, s .fits))
+    (c .before .before .before .before .before .before .before .digits .ensures, (more, s .fits))
 
-cast-i : tie.Need-cast-i Inv-loop μ-loop
-cast-i c = search needs
+enum-known-found : tie.Need-enum-known-found Inv-loop μ-loop
+enum-known-found c = search needs
 
-slice-read-first : tie.Need-slice-read-first Inv-loop μ-loop
-slice-read-first c = search needs
+enum-known-asked : tie.Need-enum-known-asked Inv-loop μ-loop
+enum-known-asked c = search needs
 
 mul-arrive : tie.Need-mul-arrive Inv-loop μ-loop
-mul-arrive c = search needs
+mul-arrive c = omega (arith, on-four _ _ _ _ _ _ (c .before .before .before .before .before .before .before .before .before .next-line .ensures) _ (c .before .before .before .before .found .given .1))
 
-element-copy-out-arrive : tie.Need-element-copy-out-arrive Inv-loop μ-loop
-element-copy-out-arrive c = search needs
-
-slice-read-arrive : tie.Need-slice-read-arrive Inv-loop μ-loop
-slice-read-arrive c = search needs
-
-slice-read-arrive-2 : tie.Need-slice-read-arrive-2 Inv-loop μ-loop
-slice-read-arrive-2 c = search needs
+array-copy-out-arrive : tie.Need-array-copy-out-arrive Inv-loop μ-loop
+array-copy-out-arrive c = omega (arith, on-four _ _ _ _ _ _ (c .before .before .before .before .before .before .before .before .before .next-line .ensures) _ (c .before .before .before .before .found .given .1))
 
 arrive-requires : tie.Need-arrive-requires Inv-loop μ-loop
 arrive-requires c κs =
-    let a = c .before .before .before .before .before .before .before .before .before .before .before in
+    let a = c .before .before .before .before .before .before .before .before .before .before .before .before in
     fit-to-call _ _ _ _ _ _ _ _ _ (a .before .before .before .before .before .before .loop .inv) _
-    (a .before .before .before .before .goes-on .ensures) (a .before .before .before .if1 .taken) _ _
-    (c .before .before .before .before .before .before .before .if2 .taken)
+    (a .before .before .before .before .goes-on .ensures) (a .before .before .before .if1 .taken) _ _ (on-four _ _ _ _ _ _ (a .next-line .ensures) _ (c .before .before .before .before .before .before .before .found .given .1))
 
-mul-t40 : tie.Need-mul-t40 Inv-loop μ-loop
-mul-t40 c = search needs
+mul-ports : tie.Need-mul-ports Inv-loop μ-loop
+mul-ports c = omega (arith, on-four _ _ _ _ _ _ (c .before .before .before .before .before .before .before .before .before .before .before .before .before .before .before .next-line .ensures) _ (c .before .before .before .before .before .before .before .before .before .before .found .given .1))
 
-element-set-from-card : tie.Need-element-set-from-card Inv-loop μ-loop
-element-set-from-card c = search needs
+array-set-from-ports : tie.Need-array-set-from-ports Inv-loop μ-loop
+array-set-from-ports c = omega (arith, on-four _ _ _ _ _ _ (c .before .before .before .before .before .before .before .before .before .before .before .before .before .before .before .next-line .ensures) _ (c .before .before .before .before .before .before .before .before .before .before .found .given .1))
 
 loop-less : tie.Need-loop-less Inv-loop μ-loop
-loop-less c =
-    let a = c .before .before .before .before .before .before .before .before .before .before .before .before .before .before in
-    omega (arith, a .next-line .ensures .onward, a .next-line .ensures .within)
+loop-less c = let a = c .before .before .before .before .before .before .before .before .before .before .before .before .before .before .before in omega (arith, a .next-line .ensures .onward, a .next-line .ensures .within)
 
 loop-again : tie.Need-loop-again Inv-loop μ-loop
 loop-again c =
-    let a = c .before .before .before .before .before .before .before .before .before .before .before .before .before .before in
-    channel-line _ _ _ _ _ (a .next-line .ensures) _ _ _ _ _ _ (a .before .before .before .before .before .before .loop .inv)
-    (c .before .before .before .before .before .before .before .before .before .before .if2 .taken) _ _ _ _ _
-    (λ front. asks-arrival _ _ front (c .before .before .before .before .before .before .before .before .match .keys1))
-    (c .before .before .arrive .ensures) (omega arith)
+    let a = c .before .before .before .before .before .before .before .before .before .before .before .before .before .before .before in
+    channel-line _ _ _ _ _ (a .next-line .ensures) _ _ _ _ _ _ (a .before .before .before .before .before .before .loop .inv) _
+    (c .before .before .before .before .before .before .before .before .before .before .found .given .1) _ _ _ _ _ _ (c .before .before .before .before .before .before .before .asked .given .1) refl (c .before .before .arrive .ensures) (omega arith)
+
+enum-known-asked-2 : tie.Need-enum-known-asked-2 Inv-loop μ-loop
+enum-known-asked-2 c = search needs
 
 mul-read : tie.Need-mul-read Inv-loop μ-loop
-mul-read c = search needs
+mul-read c = omega (arith, on-four _ _ _ _ _ _ (c .before .before .before .before .before .before .before .before .before .next-line .ensures) _ (c .before .before .before .before .found .given .1))
 
-element-copy-out-read : tie.Need-element-copy-out-read Inv-loop μ-loop
-element-copy-out-read c = search needs
-
-slice-read-read : tie.Need-slice-read-read Inv-loop μ-loop
-slice-read-read c = search needs
+array-copy-out-read : tie.Need-array-copy-out-read Inv-loop μ-loop
+array-copy-out-read c = omega (arith, on-four _ _ _ _ _ _ (c .before .before .before .before .before .before .before .before .before .next-line .ensures) _ (c .before .before .before .before .found .given .1))
 
 read-requires : tie.Need-read-requires Inv-loop μ-loop
 read-requires c κs =
-    let a = c .before .before .before .before .before .before .before .before .before .before in
+    let a = c .before .before .before .before .before .before .before .before .before .before .before .before in
     fit-to-call _ _ _ _ _ _ _ _ _ (a .before .before .before .before .before .before .loop .inv) _
-    (a .before .before .before .before .goes-on .ensures) (a .before .before .before .if1 .taken) _ _
-    (c .before .before .before .before .before .before .if2 .taken)
+    (a .before .before .before .before .goes-on .ensures) (a .before .before .before .if1 .taken) _ _ (on-four _ _ _ _ _ _ (a .next-line .ensures) _ (c .before .before .before .before .before .before .before .found .given .1))
 
-mul-t53 : tie.Need-mul-t53 Inv-loop μ-loop
-mul-t53 c = search needs
+mul-ports-2 : tie.Need-mul-ports-2 Inv-loop μ-loop
+mul-ports-2 c = omega (arith, on-four _ _ _ _ _ _ (c .before .before .before .before .before .before .before .before .before .before .before .before .before .before .before .next-line .ensures) _ (c .before .before .before .before .before .before .before .before .before .before .found .given .1))
 
-element-set-from-card-2 : tie.Need-element-set-from-card-2 Inv-loop μ-loop
-element-set-from-card-2 c = search needs
+array-set-from-ports-2 : tie.Need-array-set-from-ports-2 Inv-loop μ-loop
+array-set-from-ports-2 c = omega (arith, on-four _ _ _ _ _ _ (c .before .before .before .before .before .before .before .before .before .before .before .before .before .before .before .next-line .ensures) _ (c .before .before .before .before .before .before .before .before .before .before .found .given .1))
 
 loop-less-2 : tie.Need-loop-less-2 Inv-loop μ-loop
-loop-less-2 c =
-    let a = c .before .before .before .before .before .before .before .before .before .before .before .before .before in
-    omega (arith, a .next-line .ensures .onward, a .next-line .ensures .within)
+loop-less-2 c = let a = c .before .before .before .before .before .before .before .before .before .before .before .before .before .before .before in omega (arith, a .next-line .ensures .onward, a .next-line .ensures .within)
 
 loop-again-2 : tie.Need-loop-again-2 Inv-loop μ-loop
 loop-again-2 c =
-    let a = c .before .before .before .before .before .before .before .before .before .before .before .before .before in
-    channel-line _ _ _ _ _ (a .next-line .ensures) _ _ _ _ _ _ (a .before .before .before .before .before .before .loop .inv)
-    (c .before .before .before .before .before .before .before .before .before .if2 .taken) _ _ _ _ _
-    (λ front. asks-read _ _ front (c .before .before .before .before .before .before .before .match .keys2))
-    (c .before .before .read .ensures) (omega arith)
+    let a = c .before .before .before .before .before .before .before .before .before .before .before .before .before .before .before in
+    channel-line _ _ _ _ _ (a .next-line .ensures) _ _ _ _ _ _ (a .before .before .before .before .before .before .loop .inv) _
+    (c .before .before .before .before .before .before .before .before .before .before .found .given .1) _ _ _ _ _ _ (c .before .before .before .before .before .before .before .asked2 .given .1) refl (c .before .before .read .ensures) (omega arith)
+
+enum-told : tie.Need-enum-told Inv-loop μ-loop
+enum-told c = search needs
 
 mul-load : tie.Need-mul-load Inv-loop μ-loop
-mul-load c = search needs
+mul-load c = omega (arith, on-four _ _ _ _ _ _ (c .before .before .before .before .before .before .before .before .next-line .ensures) _ (c .before .before .before .found .given .1))
 
-element-copy-out-load : tie.Need-element-copy-out-load Inv-loop μ-loop
-element-copy-out-load c = search needs
+array-copy-out-load : tie.Need-array-copy-out-load Inv-loop μ-loop
+array-copy-out-load c = omega (arith, on-four _ _ _ _ _ _ (c .before .before .before .before .before .before .before .before .next-line .ensures) _ (c .before .before .before .found .given .1))
 
 sub-load : tie.Need-sub-load Inv-loop μ-loop
-sub-load c =
-    let a = c .before .before .before .before .before .before .before in
-    let to = goes _ _ _ _ _ _ (a .next-line .ensures) (c .before .before .before .if2 .taken) in
-    omega (arith, two-or-longer _ _ (to .front))
+sub-load c = omega (arith, two-or-longer _ _ _ _ _ _ (c .before .before .before .before .before .before .before .before .before .next-line .ensures) _ (c .before .before .before .before .found .given .1))
 
 part-load-start : tie.Need-part-load-start Inv-loop μ-loop
-part-load-start c =
-    let a = c .before .before .before .before .before .before .before .before in
-    let to = goes _ _ _ _ _ _ (a .next-line .ensures) (c .before .before .before .before .if2 .taken) in
-    omega (arith, two-or-longer _ _ (to .front))
+part-load-start c = omega (arith, two-or-longer _ _ _ _ _ _ (c .before .before .before .before .before .before .before .before .before .before .next-line .ensures) _ (c .before .before .before .before .before .found .given .1))
 
 part-load-end : tie.Need-part-load-end Inv-loop μ-loop
 part-load-end c = search needs
 
 load-requires : tie.Need-load-requires Inv-loop μ-loop
 load-requires c κs =
-    let a = c .before .before .before .before .before .before .before .before .before .before .before in
+    let a = c .before .before .before .before .before .before .before .before .before .before .before .before .before in
     fit-to-call _ _ _ _ _ _ _ _ _ (a .before .before .before .before .before .before .loop .inv) _
-    (a .before .before .before .before .goes-on .ensures) (a .before .before .before .if1 .taken) _ _
-    (c .before .before .before .before .before .before .before .if2 .taken)
+    (a .before .before .before .before .goes-on .ensures) (a .before .before .before .if1 .taken) _ _ (on-four _ _ _ _ _ _ (a .next-line .ensures) _ (c .before .before .before .before .before .before .before .before .found .given .1))
 
-mul-t68 : tie.Need-mul-t68 Inv-loop μ-loop
-mul-t68 c = search needs
+mul-ports-3 : tie.Need-mul-ports-3 Inv-loop μ-loop
+mul-ports-3 c = omega (arith, on-four _ _ _ _ _ _ (c .before .before .before .before .before .before .before .before .before .before .before .before .before .before .before .before .next-line .ensures) _ (c .before .before .before .before .before .before .before .before .before .before .before .found .given .1))
 
-element-set-from-card-3 : tie.Need-element-set-from-card-3 Inv-loop μ-loop
-element-set-from-card-3 c = search needs
+array-set-from-ports-3 : tie.Need-array-set-from-ports-3 Inv-loop μ-loop
+array-set-from-ports-3 c = omega (arith, on-four _ _ _ _ _ _ (c .before .before .before .before .before .before .before .before .before .before .before .before .before .before .before .before .next-line .ensures) _ (c .before .before .before .before .before .before .before .before .before .before .before .found .given .1))
 
 loop-less-3 : tie.Need-loop-less-3 Inv-loop μ-loop
-loop-less-3 c =
-    let a = c .before .before .before .before .before .before .before .before .before .before .before .before .before .before in
-    omega (arith, a .next-line .ensures .onward, a .next-line .ensures .within)
+loop-less-3 c = let a = c .before .before .before .before .before .before .before .before .before .before .before .before .before .before .before .before in omega (arith, a .next-line .ensures .onward, a .next-line .ensures .within)
 
 loop-again-3 : tie.Need-loop-again-3 Inv-loop μ-loop
 loop-again-3 c =
-    let a = c .before .before .before .before .before .before .before .before .before .before .before .before .before .before in
-    channel-line _ _ _ _ _ (a .next-line .ensures) _ _ _ _ _ _ (a .before .before .before .before .before .before .loop .inv)
-    (c .before .before .before .before .before .before .before .before .before .before .if2 .taken) _ _ _ _ _
-    (λ front. asks-load _ _ front (c .before .before .before .before .before .before .before .before .match .keys3))
-    (c .before .before .load .ensures) (omega arith)
+    let a = c .before .before .before .before .before .before .before .before .before .before .before .before .before .before .before .before in
+    channel-line _ _ _ _ _ (a .next-line .ensures) _ _ _ _ _ _ (a .before .before .before .before .before .before .loop .inv) _
+    (c .before .before .before .before .before .before .before .before .before .before .before .found .given .1) _ _ _ _ _ _ (c .before .before .before .before .before .before .before .before .enum-told .given .1) (rw part) (c .before .before .load .ensures) (omega arith)
+
+enum-told-2 : tie.Need-enum-told-2 Inv-loop μ-loop
+enum-told-2 c = search needs
 
 mul-turn : tie.Need-mul-turn Inv-loop μ-loop
-mul-turn c = search needs
+mul-turn c = omega (arith, on-four _ _ _ _ _ _ (c .before .before .before .before .before .before .before .before .next-line .ensures) _ (c .before .before .before .found .given .1))
 
-element-copy-out-turn : tie.Need-element-copy-out-turn Inv-loop μ-loop
-element-copy-out-turn c = search needs
+array-copy-out-turn : tie.Need-array-copy-out-turn Inv-loop μ-loop
+array-copy-out-turn c = omega (arith, on-four _ _ _ _ _ _ (c .before .before .before .before .before .before .before .before .next-line .ensures) _ (c .before .before .before .found .given .1))
 
 turn-requires : tie.Need-turn-requires Inv-loop μ-loop
 turn-requires c κs =
-    let a = c .before .before .before .before .before .before .before .before .before in
+    let a = c .before .before .before .before .before .before .before .before .before .before .before in
     fit-to-call _ _ _ _ _ _ _ _ _ (a .before .before .before .before .before .before .loop .inv) _
-    (a .before .before .before .before .goes-on .ensures) (a .before .before .before .if1 .taken) _ _
-    (c .before .before .before .before .before .if2 .taken)
+    (a .before .before .before .before .goes-on .ensures) (a .before .before .before .if1 .taken) _ _ (on-four _ _ _ _ _ _ (a .next-line .ensures) _ (c .before .before .before .before .before .before .found .given .1))
 
-mul-t79 : tie.Need-mul-t79 Inv-loop μ-loop
-mul-t79 c = search needs
+mul-ports-4 : tie.Need-mul-ports-4 Inv-loop μ-loop
+mul-ports-4 c = omega (arith, on-four _ _ _ _ _ _ (c .before .before .before .before .before .before .before .before .before .before .before .before .before .before .next-line .ensures) _ (c .before .before .before .before .before .before .before .before .before .found .given .1))
 
-element-set-from-card-4 : tie.Need-element-set-from-card-4 Inv-loop μ-loop
-element-set-from-card-4 c = search needs
+array-set-from-ports-4 : tie.Need-array-set-from-ports-4 Inv-loop μ-loop
+array-set-from-ports-4 c = omega (arith, on-four _ _ _ _ _ _ (c .before .before .before .before .before .before .before .before .before .before .before .before .before .before .next-line .ensures) _ (c .before .before .before .before .before .before .before .before .before .found .given .1))
 
 loop-less-4 : tie.Need-loop-less-4 Inv-loop μ-loop
-loop-less-4 c =
-    let a = c .before .before .before .before .before .before .before .before .before .before .before .before in
-    omega (arith, a .next-line .ensures .onward, a .next-line .ensures .within)
+loop-less-4 c = let a = c .before .before .before .before .before .before .before .before .before .before .before .before .before .before in omega (arith, a .next-line .ensures .onward, a .next-line .ensures .within)
 
 loop-again-4 : tie.Need-loop-again-4 Inv-loop μ-loop
 loop-again-4 c =
-    let a = c .before .before .before .before .before .before .before .before .before .before .before .before in
-    channel-line _ _ _ _ _ (a .next-line .ensures) _ _ _ _ _ _ (a .before .before .before .before .before .before .loop .inv)
-    (c .before .before .before .before .before .before .before .before .if2 .taken) _ _ _ _ _
-    (λ front. asks-turn _ _ front (c .before .before .before .before .before .before .match .keys4))
-    (c .before .before .turn .ensures) (omega arith)
+    let a = c .before .before .before .before .before .before .before .before .before .before .before .before .before .before in
+    channel-line _ _ _ _ _ (a .next-line .ensures) _ _ _ _ _ _ (a .before .before .before .before .before .before .loop .inv) _
+    (c .before .before .before .before .before .before .before .before .before .found .given .1) _ _ _ _ _ _ (c .before .before .before .before .before .before .enum-told2 .given .1) refl (c .before .before .turn .ensures) (omega arith)
+
+enum-known-asked-3 : tie.Need-enum-known-asked-3 Inv-loop μ-loop
+enum-known-asked-3 c = search needs
 
 mul-set-cts : tie.Need-mul-set-cts Inv-loop μ-loop
-mul-set-cts c = search needs
+mul-set-cts c = omega (arith, on-four _ _ _ _ _ _ (c .before .before .before .before .before .before .before .before .before .next-line .ensures) _ (c .before .before .before .before .found .given .1))
 
-element-copy-out-set-cts : tie.Need-element-copy-out-set-cts Inv-loop μ-loop
-element-copy-out-set-cts c = search needs
-
-slice-read-set-cts : tie.Need-slice-read-set-cts Inv-loop μ-loop
-slice-read-set-cts c = search needs
+array-copy-out-set-cts : tie.Need-array-copy-out-set-cts Inv-loop μ-loop
+array-copy-out-set-cts c = omega (arith, on-four _ _ _ _ _ _ (c .before .before .before .before .before .before .before .before .before .next-line .ensures) _ (c .before .before .before .before .found .given .1))
 
 set-cts-requires : tie.Need-set-cts-requires Inv-loop μ-loop
 set-cts-requires c κs =
-    let a = c .before .before .before .before .before .before .before .before .before .before in
+    let a = c .before .before .before .before .before .before .before .before .before .before .before .before in
     fit-to-call _ _ _ _ _ _ _ _ _ (a .before .before .before .before .before .before .loop .inv) _
-    (a .before .before .before .before .goes-on .ensures) (a .before .before .before .if1 .taken) _ _
-    (c .before .before .before .before .before .before .if2 .taken)
+    (a .before .before .before .before .goes-on .ensures) (a .before .before .before .if1 .taken) _ _ (on-four _ _ _ _ _ _ (a .next-line .ensures) _ (c .before .before .before .before .before .before .before .found .given .1))
 
-mul-t92 : tie.Need-mul-t92 Inv-loop μ-loop
-mul-t92 c = search needs
+mul-ports-5 : tie.Need-mul-ports-5 Inv-loop μ-loop
+mul-ports-5 c = omega (arith, on-four _ _ _ _ _ _ (c .before .before .before .before .before .before .before .before .before .before .before .before .before .before .before .next-line .ensures) _ (c .before .before .before .before .before .before .before .before .before .before .found .given .1))
 
-element-set-from-card-5 : tie.Need-element-set-from-card-5 Inv-loop μ-loop
-element-set-from-card-5 c = search needs
+array-set-from-ports-5 : tie.Need-array-set-from-ports-5 Inv-loop μ-loop
+array-set-from-ports-5 c = omega (arith, on-four _ _ _ _ _ _ (c .before .before .before .before .before .before .before .before .before .before .before .before .before .before .before .next-line .ensures) _ (c .before .before .before .before .before .before .before .before .before .before .found .given .1))
 
 loop-less-5 : tie.Need-loop-less-5 Inv-loop μ-loop
-loop-less-5 c =
-    let a = c .before .before .before .before .before .before .before .before .before .before .before .before .before in
-    omega (arith, a .next-line .ensures .onward, a .next-line .ensures .within)
+loop-less-5 c = let a = c .before .before .before .before .before .before .before .before .before .before .before .before .before .before .before in omega (arith, a .next-line .ensures .onward, a .next-line .ensures .within)
 
 loop-again-5 : tie.Need-loop-again-5 Inv-loop μ-loop
 loop-again-5 c =
-    let a = c .before .before .before .before .before .before .before .before .before .before .before .before .before in
-    channel-line _ _ _ _ _ (a .next-line .ensures) _ _ _ _ _ _ (a .before .before .before .before .before .before .loop .inv)
-    (c .before .before .before .before .before .before .before .before .before .if2 .taken) _ _ _ _ _
-    (λ front. asks-cts _ _ front (c .before .before .before .before .before .before .before .match .keys5))
-    (c .before .before .set-cts .ensures) (omega arith)
+    let a = c .before .before .before .before .before .before .before .before .before .before .before .before .before .before .before in
+    channel-line _ _ _ _ _ (a .next-line .ensures) _ _ _ _ _ _ (a .before .before .before .before .before .before .loop .inv) _
+    (c .before .before .before .before .before .before .before .before .before .before .found .given .1) _ _ _ _ _ _ (c .before .before .before .before .before .before .before .asked3 .given .1) refl (c .before .before .set-cts .ensures) (omega arith)
+
+enum-known-asked-4 : tie.Need-enum-known-asked-4 Inv-loop μ-loop
+enum-known-asked-4 c = search needs
 
 mul-ask-special : tie.Need-mul-ask-special Inv-loop μ-loop
-mul-ask-special c = search needs
+mul-ask-special c = omega (arith, on-four _ _ _ _ _ _ (c .before .before .before .before .before .before .before .before .before .next-line .ensures) _ (c .before .before .before .before .found .given .1))
 
-element-copy-out-ask-special : tie.Need-element-copy-out-ask-special Inv-loop μ-loop
-element-copy-out-ask-special c = search needs
-
-slice-read-ask-special : tie.Need-slice-read-ask-special Inv-loop μ-loop
-slice-read-ask-special c = search needs
+array-copy-out-ask-special : tie.Need-array-copy-out-ask-special Inv-loop μ-loop
+array-copy-out-ask-special c = omega (arith, on-four _ _ _ _ _ _ (c .before .before .before .before .before .before .before .before .before .next-line .ensures) _ (c .before .before .before .before .found .given .1))
 
 ask-special-requires : tie.Need-ask-special-requires Inv-loop μ-loop
 ask-special-requires c κs =
-    let a = c .before .before .before .before .before .before .before .before .before .before in
+    let a = c .before .before .before .before .before .before .before .before .before .before .before .before in
     fit-to-call _ _ _ _ _ _ _ _ _ (a .before .before .before .before .before .before .loop .inv) _
-    (a .before .before .before .before .goes-on .ensures) (a .before .before .before .if1 .taken) _ _
-    (c .before .before .before .before .before .before .if2 .taken)
+    (a .before .before .before .before .goes-on .ensures) (a .before .before .before .if1 .taken) _ _ (on-four _ _ _ _ _ _ (a .next-line .ensures) _ (c .before .before .before .before .before .before .before .found .given .1))
 
-mul-t105 : tie.Need-mul-t105 Inv-loop μ-loop
-mul-t105 c = search needs
+mul-ports-6 : tie.Need-mul-ports-6 Inv-loop μ-loop
+mul-ports-6 c = omega (arith, on-four _ _ _ _ _ _ (c .before .before .before .before .before .before .before .before .before .before .before .before .before .before .before .next-line .ensures) _ (c .before .before .before .before .before .before .before .before .before .before .found .given .1))
 
-element-set-from-card-6 : tie.Need-element-set-from-card-6 Inv-loop μ-loop
-element-set-from-card-6 c = search needs
+array-set-from-ports-6 : tie.Need-array-set-from-ports-6 Inv-loop μ-loop
+array-set-from-ports-6 c = omega (arith, on-four _ _ _ _ _ _ (c .before .before .before .before .before .before .before .before .before .before .before .before .before .before .before .next-line .ensures) _ (c .before .before .before .before .before .before .before .before .before .before .found .given .1))
 
 loop-less-6 : tie.Need-loop-less-6 Inv-loop μ-loop
-loop-less-6 c =
-    let a = c .before .before .before .before .before .before .before .before .before .before .before .before .before in
-    omega (arith, a .next-line .ensures .onward, a .next-line .ensures .within)
+loop-less-6 c = let a = c .before .before .before .before .before .before .before .before .before .before .before .before .before .before .before in omega (arith, a .next-line .ensures .onward, a .next-line .ensures .within)
 
 loop-again-6 : tie.Need-loop-again-6 Inv-loop μ-loop
 loop-again-6 c =
+    let a = c .before .before .before .before .before .before .before .before .before .before .before .before .before .before .before in
+    channel-line _ _ _ _ _ (a .next-line .ensures) _ _ _ _ _ _ (a .before .before .before .before .before .before .loop .inv) _
+    (c .before .before .before .before .before .before .before .before .before .before .found .given .1) _ _ _ _ _ _ (c .before .before .before .before .before .before .before .asked4 .given .1) refl (c .before .before .ask-special .ensures) (omega arith)
+
+enum-told-3 : tie.Need-enum-told-3 Inv-loop μ-loop
+enum-told-3 c = search needs
+
+mul-take-settings : tie.Need-mul-take-settings Inv-loop μ-loop
+mul-take-settings c = omega (arith, on-four _ _ _ _ _ _ (c .before .before .before .before .before .before .before .before .next-line .ensures) _ (c .before .before .before .found .given .1))
+
+array-copy-out-take-settings : tie.Need-array-copy-out-take-settings Inv-loop μ-loop
+array-copy-out-take-settings c = omega (arith, on-four _ _ _ _ _ _ (c .before .before .before .before .before .before .before .before .next-line .ensures) _ (c .before .before .before .found .given .1))
+
+sub-take-settings : tie.Need-sub-take-settings Inv-loop μ-loop
+sub-take-settings c = omega (arith, two-or-longer _ _ _ _ _ _ (c .before .before .before .before .before .before .before .before .before .next-line .ensures) _ (c .before .before .before .before .found .given .1))
+
+part-take-settings-start : tie.Need-part-take-settings-start Inv-loop μ-loop
+part-take-settings-start c = omega (arith, two-or-longer _ _ _ _ _ _ (c .before .before .before .before .before .before .before .before .before .before .next-line .ensures) _ (c .before .before .before .before .before .found .given .1))
+
+part-take-settings-end : tie.Need-part-take-settings-end Inv-loop μ-loop
+part-take-settings-end c = search needs
+
+take-settings-requires : tie.Need-take-settings-requires Inv-loop μ-loop
+take-settings-requires c κs =
     let a = c .before .before .before .before .before .before .before .before .before .before .before .before .before in
-    channel-line _ _ _ _ _ (a .next-line .ensures) _ _ _ _ _ _ (a .before .before .before .before .before .before .loop .inv)
-    (c .before .before .before .before .before .before .before .before .before .if2 .taken) _ _ _ _ _
-    (λ front. asks-special _ _ front (c .before .before .before .before .before .before .before .match .keys6))
-    (c .before .before .ask-special .ensures) (omega arith)
-
-mul-configure : tie.Need-mul-configure Inv-loop μ-loop
-mul-configure c = search needs
-
-element-copy-out-configure : tie.Need-element-copy-out-configure Inv-loop μ-loop
-element-copy-out-configure c = search needs
-
-sub-configure : tie.Need-sub-configure Inv-loop μ-loop
-sub-configure c =
-    let a = c .before .before .before .before .before .before .before in
-    let to = goes _ _ _ _ _ _ (a .next-line .ensures) (c .before .before .before .if2 .taken) in
-    omega (arith, two-or-longer _ _ (to .front))
-
-part-configure-start : tie.Need-part-configure-start Inv-loop μ-loop
-part-configure-start c =
-    let a = c .before .before .before .before .before .before .before .before in
-    let to = goes _ _ _ _ _ _ (a .next-line .ensures) (c .before .before .before .before .if2 .taken) in
-    omega (arith, two-or-longer _ _ (to .front))
-
-part-configure-end : tie.Need-part-configure-end Inv-loop μ-loop
-part-configure-end c = search needs
-
-configure-requires : tie.Need-configure-requires Inv-loop μ-loop
-configure-requires c κs =
-    let a = c .before .before .before .before .before .before .before .before .before .before .before in
     fit-to-call _ _ _ _ _ _ _ _ _ (a .before .before .before .before .before .before .loop .inv) _
-    (a .before .before .before .before .goes-on .ensures) (a .before .before .before .if1 .taken) _ _
-    (c .before .before .before .before .before .before .before .if2 .taken)
+    (a .before .before .before .before .goes-on .ensures) (a .before .before .before .if1 .taken) _ _ (on-four _ _ _ _ _ _ (a .next-line .ensures) _ (c .before .before .before .before .before .before .before .before .found .given .1))
 
-mul-t120 : tie.Need-mul-t120 Inv-loop μ-loop
-mul-t120 c = search needs
+mul-ports-7 : tie.Need-mul-ports-7 Inv-loop μ-loop
+mul-ports-7 c = omega (arith, on-four _ _ _ _ _ _ (c .before .before .before .before .before .before .before .before .before .before .before .before .before .before .before .before .next-line .ensures) _ (c .before .before .before .before .before .before .before .before .before .before .before .found .given .1))
 
-element-set-from-card-7 : tie.Need-element-set-from-card-7 Inv-loop μ-loop
-element-set-from-card-7 c = search needs
+array-set-from-ports-7 : tie.Need-array-set-from-ports-7 Inv-loop μ-loop
+array-set-from-ports-7 c = omega (arith, on-four _ _ _ _ _ _ (c .before .before .before .before .before .before .before .before .before .before .before .before .before .before .before .before .next-line .ensures) _ (c .before .before .before .before .before .before .before .before .before .before .before .found .given .1))
 
 loop-less-7 : tie.Need-loop-less-7 Inv-loop μ-loop
-loop-less-7 c =
-    let a = c .before .before .before .before .before .before .before .before .before .before .before .before .before .before in
-    omega (arith, a .next-line .ensures .onward, a .next-line .ensures .within)
+loop-less-7 c = let a = c .before .before .before .before .before .before .before .before .before .before .before .before .before .before .before .before in omega (arith, a .next-line .ensures .onward, a .next-line .ensures .within)
 
 loop-again-7 : tie.Need-loop-again-7 Inv-loop μ-loop
 loop-again-7 c =
-    let a = c .before .before .before .before .before .before .before .before .before .before .before .before .before .before in
-    channel-line _ _ _ _ _ (a .next-line .ensures) _ _ _ _ _ _ (a .before .before .before .before .before .before .loop .inv)
-    (c .before .before .before .before .before .before .before .before .before .before .if2 .taken) _ _ _ _ _
-    (λ front. asks-settings _ _ front (c .before .before .before .before .before .before .before .before .match .keys7))
-    (c .before .before .configure .ensures) (omega arith)
+    let a = c .before .before .before .before .before .before .before .before .before .before .before .before .before .before .before .before in
+    channel-line _ _ _ _ _ (a .next-line .ensures) _ _ _ _ _ _ (a .before .before .before .before .before .before .loop .inv) _
+    (c .before .before .before .before .before .before .before .before .before .before .before .found .given .1) _ _ _ _ _ _ (c .before .before .before .before .before .before .before .before .enum-told3 .given .1) (rw part) (c .before .before .take-settings .ensures) (omega arith)
+
+enum-told-4 : tie.Need-enum-told-4 Inv-loop μ-loop
+enum-told-4 c = search needs
 
 mul-reset : tie.Need-mul-reset Inv-loop μ-loop
-mul-reset c = search needs
+mul-reset c = omega (arith, on-four _ _ _ _ _ _ (c .before .before .before .before .before .before .before .before .next-line .ensures) _ (c .before .before .before .found .given .1))
 
-element-copy-out-reset : tie.Need-element-copy-out-reset Inv-loop μ-loop
-element-copy-out-reset c = search needs
+array-copy-out-reset : tie.Need-array-copy-out-reset Inv-loop μ-loop
+array-copy-out-reset c = omega (arith, on-four _ _ _ _ _ _ (c .before .before .before .before .before .before .before .before .next-line .ensures) _ (c .before .before .before .found .given .1))
 
 reset-requires : tie.Need-reset-requires Inv-loop μ-loop
 reset-requires c κs =
-    let a = c .before .before .before .before .before .before .before .before .before in
+    let a = c .before .before .before .before .before .before .before .before .before .before .before in
     fit-to-call _ _ _ _ _ _ _ _ _ (a .before .before .before .before .before .before .loop .inv) _
-    (a .before .before .before .before .goes-on .ensures) (a .before .before .before .if1 .taken) _ _
-    (c .before .before .before .before .before .if2 .taken)
+    (a .before .before .before .before .goes-on .ensures) (a .before .before .before .if1 .taken) _ _ (on-four _ _ _ _ _ _ (a .next-line .ensures) _ (c .before .before .before .before .before .before .found .given .1))
 
-mul-t131 : tie.Need-mul-t131 Inv-loop μ-loop
-mul-t131 c = search needs
+mul-ports-8 : tie.Need-mul-ports-8 Inv-loop μ-loop
+mul-ports-8 c = omega (arith, on-four _ _ _ _ _ _ (c .before .before .before .before .before .before .before .before .before .before .before .before .before .before .next-line .ensures) _ (c .before .before .before .before .before .before .before .before .before .found .given .1))
 
-element-set-from-card-8 : tie.Need-element-set-from-card-8 Inv-loop μ-loop
-element-set-from-card-8 c = search needs
+array-set-from-ports-8 : tie.Need-array-set-from-ports-8 Inv-loop μ-loop
+array-set-from-ports-8 c = omega (arith, on-four _ _ _ _ _ _ (c .before .before .before .before .before .before .before .before .before .before .before .before .before .before .next-line .ensures) _ (c .before .before .before .before .before .before .before .before .before .found .given .1))
 
 loop-less-8 : tie.Need-loop-less-8 Inv-loop μ-loop
-loop-less-8 c =
-    let a = c .before .before .before .before .before .before .before .before .before .before .before .before in
-    omega (arith, a .next-line .ensures .onward, a .next-line .ensures .within)
+loop-less-8 c = let a = c .before .before .before .before .before .before .before .before .before .before .before .before .before .before in omega (arith, a .next-line .ensures .onward, a .next-line .ensures .within)
 
 loop-again-8 : tie.Need-loop-again-8 Inv-loop μ-loop
 loop-again-8 c =
-    let a = c .before .before .before .before .before .before .before .before .before .before .before .before in
-    channel-line _ _ _ _ _ (a .next-line .ensures) _ _ _ _ _ _ (a .before .before .before .before .before .before .loop .inv)
-    (c .before .before .before .before .before .before .before .before .if2 .taken) _ _ _ _ _
-    (λ front. asks-reset _ _ front (c .before .before .before .before .before .before .match .keys8))
-    (c .before .before .reset .ensures) (omega arith)
+    let a = c .before .before .before .before .before .before .before .before .before .before .before .before .before .before in
+    channel-line _ _ _ _ _ (a .next-line .ensures) _ _ _ _ _ _ (a .before .before .before .before .before .before .loop .inv) _
+    (c .before .before .before .before .before .before .before .before .before .found .given .1) _ _ _ _ _ _ (c .before .before .before .before .before .before .enum-told4 .given .1) refl (c .before .before .reset .ensures) (omega arith)
 
-mul-show : tie.Need-mul-show Inv-loop μ-loop
-mul-show c = search needs
+enum-told-5 : tie.Need-enum-told-5 Inv-loop μ-loop
+enum-told-5 c = search needs
 
-element-copy-out-show : tie.Need-element-copy-out-show Inv-loop μ-loop
-element-copy-out-show c = search needs
+mul-state : tie.Need-mul-state Inv-loop μ-loop
+mul-state c = omega (arith, on-four _ _ _ _ _ _ (c .before .before .before .before .before .before .before .before .next-line .ensures) _ (c .before .before .before .found .given .1))
 
-show-requires : tie.Need-show-requires Inv-loop μ-loop
-show-requires c κs =
-    let a = c .before .before .before .before .before .before .before .before .before in
+array-copy-out-state : tie.Need-array-copy-out-state Inv-loop μ-loop
+array-copy-out-state c = omega (arith, on-four _ _ _ _ _ _ (c .before .before .before .before .before .before .before .before .next-line .ensures) _ (c .before .before .before .found .given .1))
+
+state-requires : tie.Need-state-requires Inv-loop μ-loop
+state-requires c κs =
+    let a = c .before .before .before .before .before .before .before .before .before .before .before in
     fit-to-call _ _ _ _ _ _ _ _ _ (a .before .before .before .before .before .before .loop .inv) _
-    (a .before .before .before .before .goes-on .ensures) (a .before .before .before .if1 .taken) _ _
-    (c .before .before .before .before .before .if2 .taken)
+    (a .before .before .before .before .goes-on .ensures) (a .before .before .before .if1 .taken) _ _ (on-four _ _ _ _ _ _ (a .next-line .ensures) _ (c .before .before .before .before .before .before .found .given .1))
 
 loop-less-9 : tie.Need-loop-less-9 Inv-loop μ-loop
-loop-less-9 c =
-    let a = c .before .before .before .before .before .before .before .before .before .before .before .before in
-    omega (arith, a .next-line .ensures .onward, a .next-line .ensures .within)
+loop-less-9 c = let a = c .before .before .before .before .before .before .before .before .before .before .before .before .before .before in omega (arith, a .next-line .ensures .onward, a .next-line .ensures .within)
 
 loop-again-9 : tie.Need-loop-again-9 Inv-loop μ-loop
 loop-again-9 c =
-    let a = c .before .before .before .before .before .before .before .before .before .before .before .before in
-    shown-line _ _ _ _ _ (a .next-line .ensures) _ _ _ _ _ _ (a .before .before .before .before .before .before .loop .inv)
-    (c .before .before .before .before .before .before .before .before .if2 .taken) _ _ _ _
-    (λ front. asks-state _ _ front (c .before .before .before .before .before .before .match .rest))
-    (c .before .before .show .ensures) (omega arith)
+    let a = c .before .before .before .before .before .before .before .before .before .before .before .before .before .before in
+    shown-line _ _ _ _ _ (a .next-line .ensures) _ _ _ _ _ _ (a .before .before .before .before .before .before .loop .inv) _
+    (c .before .before .before .before .before .before .before .before .before .found .given .1) _ _ _ _ _ (c .before .before .before .before .before .before .enum-told5 .given .1) refl (c .before .before .state .ensures) (omega arith)
 
-name-next-requires : tie.Need-name-next-requires Inv-loop μ-loop
-name-next-requires c κs =
+enum-told-6 : tie.Need-enum-told-6 Inv-loop μ-loop
+enum-told-6 c = search needs
+
+pick-requires : tie.Need-pick-requires Inv-loop μ-loop
+pick-requires c κs =
     let a = c .before .before .before .before .before .before .before in
     let s = a .before .before .before .before .before .before .loop .inv in
     (s .sound, more-room _ _ _ _ _ _ _ _ _ s _ (a .before .before .before .before .goes-on .ensures) (a .before .before .before .if1 .taken))
 
 loop-less-10 : tie.Need-loop-less-10 Inv-loop μ-loop
-loop-less-10 c =
-    let a = c .before .before .before .before .before .before .before .before .before .before in
-    omega (arith, a .next-line .ensures .onward, a .next-line .ensures .within)
+loop-less-10 c = let a = c .before .before .before .before .before .before .before .before .before .before in omega (arith, a .next-line .ensures .onward, a .next-line .ensures .within)
 
 loop-again-10 : tie.Need-loop-again-10 Inv-loop μ-loop
 loop-again-10 c =
     let a = c .before .before .before .before .before .before .before .before .before .before in
-    let l = a .next-line .ensures in
-    let five = c .before .before .before .before .before .if3 .taken in
-    let small : a .next-line .result .who < 7 = omega arith in
-    let asked = found _ _ _ _ _ _ l small in
-    aside-line _ _ _ _ _ l _ _ _ _ _ _ (a .before .before .before .before .before .before .loop .inv) small _ _ _
-    (rw (is-pick _ (sym asked ∙ five)) (c .before .before .name-next .ensures)) (omega arith)
+    pick-line _ _ _ _ _ (a .next-line .ensures) _ _ _ _ _ _ (a .before .before .before .before .before .before .loop .inv) (c .before .before .before .before .before .enum-told6 .given .1) _ _ _
+    (c .before .before .pick .ensures) (omega arith)
 
-refuse-requires : tie.Need-refuse-requires Inv-loop μ-loop
-refuse-requires c κs =
-    let a = c .before .before .before .before .before .before .before .before in
+enum-told-7 : tie.Need-enum-told-7 Inv-loop μ-loop
+enum-told-7 c = search needs
+
+put-refused-requires : tie.Need-put-refused-requires Inv-loop μ-loop
+put-refused-requires c κs =
+    let a = c .before .before .before .before .before .before in
     let s = a .before .before .before .before .before .before .loop .inv in
-    let room = more-room _ _ _ _ _ _ _ _ _ s _ (a .before .before .before .before .goes-on .ensures) (a .before .before .before .if1 .taken) in
-    (room, (c .before .before .before .before .if2 .left, c .before .before .before .if3 .left))
+    (more-room _ _ _ _ _ _ _ _ _ s _ (a .before .before .before .before .goes-on .ensures) (a .before .before .before .if1 .taken), tt)
 
 loop-less-11 : tie.Need-loop-less-11 Inv-loop μ-loop
-loop-less-11 c =
-    let a = c .before .before .before .before .before .before .before .before .before .before .before in
-    omega (arith, a .next-line .ensures .onward, a .next-line .ensures .within)
+loop-less-11 c = let a = c .before .before .before .before .before .before .before .before .before in omega (arith, a .next-line .ensures .onward, a .next-line .ensures .within)
 
 loop-again-11 : tie.Need-loop-again-11 Inv-loop μ-loop
 loop-again-11 c =
-    let a = c .before .before .before .before .before .before .before .before .before .before .before in
-    let l = a .next-line .ensures in
+    let a = c .before .before .before .before .before .before .before .before .before in
+    bad-channel-line _ _ _ _ _ (a .next-line .ensures) _ _ _ _ _ _ (a .before .before .before .before .before .before .loop .inv) (c .before .before .before .before .enum-told7 .given .1) _ _
+    (c .before .before .put-refused .ensures) (omega arith)
+
+enum-told-8 : tie.Need-enum-told-8 Inv-loop μ-loop
+enum-told-8 c = search needs
+
+put-refused-requires-2 : tie.Need-put-refused-requires-2 Inv-loop μ-loop
+put-refused-requires-2 c κs =
+    let a = c .before .before .before .before .before .before in
     let s = a .before .before .before .before .before .before .loop .inv in
-    let small = c .before .before .before .before .before .if4 .taken in
-    aside-line _ _ _ _ _ l _ _ _ _ _ _ s small _ _ _ (c .before .before .refuse .ensures _ _ (s .sound) (found _ _ _ _ _ _ l small)) (omega arith)
+    (more-room _ _ _ _ _ _ _ _ _ s _ (a .before .before .before .before .goes-on .ensures) (a .before .before .before .if1 .taken), tt)
 
 loop-less-12 : tie.Need-loop-less-12 Inv-loop μ-loop
-loop-less-12 c =
-    let a = c .before .before .before .before .before .before in
-    omega (arith, a .next-line .ensures .onward, a .next-line .ensures .within)
+loop-less-12 c = let a = c .before .before .before .before .before .before .before .before .before in omega (arith, a .next-line .ensures .onward, a .next-line .ensures .within)
 
 loop-again-12 : tie.Need-loop-again-12 Inv-loop μ-loop
 loop-again-12 c =
-    let a = c .before .before .before .before .before .before in
-    open-line _ _ _ _ _ (a .next-line .ensures) _ _ _ _ _ _ (a .before .before .before .before .before .before .loop .inv) (c .if4 .left)
+    let a = c .before .before .before .before .before .before .before .before .before in
+    no-frame-line _ _ _ _ _ (a .next-line .ensures) _ _ _ _ _ _ (a .before .before .before .before .before .before .loop .inv) (c .before .before .before .before .enum-told8 .given .1) _ _
+    (c .before .before .put-refused2 .ensures) (omega arith)
+
+enum-told-9 : tie.Need-enum-told-9 Inv-loop μ-loop
+enum-told-9 c = search needs
+
+loop-less-13 : tie.Need-loop-less-13 Inv-loop μ-loop
+loop-less-13 c = let a = c .before .before .before .before .before in omega (arith, a .next-line .ensures .onward, a .next-line .ensures .within)
+
+loop-again-13 : tie.Need-loop-again-13 Inv-loop μ-loop
+loop-again-13 c =
+    let a = c .before .before .before .before .before in
+    open-line _ _ _ _ _ (a .next-line .ensures) _ _ _ _ _ _ (a .before .before .before .before .before .before .loop .inv) (c .enum-told9 .given .1)
 
 same-length : tie.Need-same-length Inv-loop μ-loop
 same-length c = search needs
@@ -450,88 +414,98 @@ serve-spec =
     goes-on-requires
     slice-aggregate-next-line
     next-line-requires
-    cast-i
-    slice-read-first
+    enum-known-found
+    enum-known-asked
     mul-arrive
-    element-copy-out-arrive
-    slice-read-arrive
-    slice-read-arrive-2
+    array-copy-out-arrive
     arrive-requires
-    mul-t40
-    element-set-from-card
+    mul-ports
+    array-set-from-ports
     loop-less
     loop-again
+    enum-known-asked-2
     mul-read
-    element-copy-out-read
-    slice-read-read
+    array-copy-out-read
     read-requires
-    mul-t53
-    element-set-from-card-2
+    mul-ports-2
+    array-set-from-ports-2
     loop-less-2
     loop-again-2
+    enum-told
     mul-load
-    element-copy-out-load
+    array-copy-out-load
     sub-load
     part-load-start
     part-load-end
     load-requires
-    mul-t68
-    element-set-from-card-3
+    mul-ports-3
+    array-set-from-ports-3
     loop-less-3
     loop-again-3
+    enum-told-2
     mul-turn
-    element-copy-out-turn
+    array-copy-out-turn
     turn-requires
-    mul-t79
-    element-set-from-card-4
+    mul-ports-4
+    array-set-from-ports-4
     loop-less-4
     loop-again-4
+    enum-known-asked-3
     mul-set-cts
-    element-copy-out-set-cts
-    slice-read-set-cts
+    array-copy-out-set-cts
     set-cts-requires
-    mul-t92
-    element-set-from-card-5
+    mul-ports-5
+    array-set-from-ports-5
     loop-less-5
     loop-again-5
+    enum-known-asked-4
     mul-ask-special
-    element-copy-out-ask-special
-    slice-read-ask-special
+    array-copy-out-ask-special
     ask-special-requires
-    mul-t105
-    element-set-from-card-6
+    mul-ports-6
+    array-set-from-ports-6
     loop-less-6
     loop-again-6
-    mul-configure
-    element-copy-out-configure
-    sub-configure
-    part-configure-start
-    part-configure-end
-    configure-requires
-    mul-t120
-    element-set-from-card-7
+    enum-told-3
+    mul-take-settings
+    array-copy-out-take-settings
+    sub-take-settings
+    part-take-settings-start
+    part-take-settings-end
+    take-settings-requires
+    mul-ports-7
+    array-set-from-ports-7
     loop-less-7
     loop-again-7
+    enum-told-4
     mul-reset
-    element-copy-out-reset
+    array-copy-out-reset
     reset-requires
-    mul-t131
-    element-set-from-card-8
+    mul-ports-8
+    array-set-from-ports-8
     loop-less-8
     loop-again-8
-    mul-show
-    element-copy-out-show
-    show-requires
+    enum-told-5
+    mul-state
+    array-copy-out-state
+    state-requires
     loop-less-9
     loop-again-9
-    name-next-requires
+    enum-told-6
+    pick-requires
     loop-less-10
     loop-again-10
-    refuse-requires
+    enum-told-7
+    put-refused-requires
     loop-less-11
     loop-again-11
+    enum-told-8
+    put-refused-requires-2
     loop-less-12
     loop-again-12
+    enum-told-9
+    loop-less-13
+    loop-again-13
     same-length
     same-length-2
     returns)

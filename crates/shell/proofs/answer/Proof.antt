@@ -4,6 +4,7 @@ use Prim.Native.Nat.{_-_, _≤_}
 use native.Mathlib.Omega.{arith}
 use lib.ListN.{length, length-take}
 use borrow.Author.Needs.{needs}
+use Rattle.printing.specs.Printed.{longest}
 use Rattle.shell.proofs.Pieces.{Begun, begins, goes-on, ends}
 use Rattle.shell.proofs.answer.Statement.{statement}
 use Rattle.shell.proofs.answer.Tie as tie
@@ -11,7 +12,7 @@ use Rattle.shell.proofs.answer.Tie as tie
 abbrev Inv-loop : tie.InvT-loop
 Inv-loop piece frame₀ out₀ card₀ line₀ at₀ frame out card line at =
     Begun piece (record { card = card₀; line = line₀; frame = frame₀ }) at (record { card = card; line = line; frame = frame })
-    × ((79 ≤ length out) × (length out ≡ length out₀))
+    × ((longest ≤ length out) × (length out ≡ length out₀))
 
 abbrev μ-loop : tie.MeasureT-loop
 μ-loop piece frame₀ out₀ card₀ line₀ at₀ frame out card line at = length piece - at

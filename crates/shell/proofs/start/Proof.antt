@@ -2,17 +2,15 @@ use mathlib.Core.Path.{_≡_}
 use native.Mathlib.Omega.{arith}
 use lib.ListN.{length, length-take}
 use borrow.Author.Needs.{needs}
-use Rattle.paper.specs.Settings.{twelve}
-use Rattle.queue.specs.Held.{depth}
 use Rattle.card.specs.Held.{Sound}
-use Rattle.hexadecimal.specs.Line.{Fits}
+use Rattle.hexadecimal.specs.LineSoFar.{Fits}
 use Rattle.shell.proofs.Pieces.{fresh-fits}
 use Rattle.shell.proofs.start.Statement.{statement}
 use Rattle.shell.proofs.start.Tie as tie
 
 abbrev Inv-loop : tie.InvT-loop
 Inv-loop carried₀ frame₀ piece₀ out₀ turns₀ carried frame piece out turns =
-    (Sound depth twelve (carried .card) × Fits (carried .line) frame) × ((length piece ≡ 65536) × (length out ≡ 65536))
+    (Sound (carried .card) × Fits (carried .line) frame) × ((length piece ≡ 65536) × (length out ≡ 65536))
 
 abbrev μ-loop : tie.MeasureT-loop
 μ-loop carried₀ frame₀ piece₀ out₀ turns₀ carried frame piece out turns = turns

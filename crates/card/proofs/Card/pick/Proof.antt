@@ -1,77 +1,16 @@
-use native.Mathlib.Omega.{arith}
-use lib.Dec.{lit≤}
+use Rattle.card.proofs.Laws.{picks, picks-none}
 use borrow.Author.Needs.{needs}
-use Rattle.paper.specs.Settings.{twelve}
-use Rattle.queue.specs.Held.{depth}
-use Rattle.card.proofs.Laws.{channel-sound, place-small, picks, picks-none}
 use Rattle.card.proofs.Card.pick.Statement.{statement}
 use Rattle.card.proofs.Card.pick.Tie as tie
 
-element-copy-out-zero : tie.Need-element-copy-out-zero
-element-copy-out-zero c = search needs
-
-element-copy-out-one : tie.Need-element-copy-out-one
-element-copy-out-one c = search needs
-
-element-copy-out-two : tie.Need-element-copy-out-two
-element-copy-out-two c = search needs
-
-element-copy-out-three : tie.Need-element-copy-out-three
-element-copy-out-three c = search needs
-
-ready-requires : tie.Need-ready-requires
-ready-requires c κs =
-    let a = c .before .before .before .before in
-    channel-sound depth twelve (a .args .t1) (a .pre) _ _ (omega arith)
-
-ready-requires-2 : tie.Need-ready-requires-2
-ready-requires-2 c κs =
-    let a = c .before .before .before .before .before in
-    channel-sound depth twelve (a .args .t1) (a .pre) _ _ (omega arith)
-
-ready-requires-3 : tie.Need-ready-requires-3
-ready-requires-3 c κs =
-    let a = c .before .before .before .before .before .before in
-    channel-sound depth twelve (a .args .t1) (a .pre) _ _ (omega arith)
-
-ready-requires-4 : tie.Need-ready-requires-4
-ready-requires-4 c κs =
-    let a = c .before .before .before .before .before .before .before in
-    channel-sound depth twelve (a .args .t1) (a .pre) _ _ (omega arith)
-
-look-requires : tie.Need-look-requires
-look-requires c κs =
-    let a = c .before .before .before .before .before .before .before .before in
-    omega (arith, place-small depth twelve (a .args .t1) (a .pre))
+next-ready-requires : tie.Need-next-ready-requires
+next-ready-requires c κs = search needs
 
 returns : tie.Need-returns
-returns c =
-    let a = c .before .before .before .before .before .before .before .before .before .before in
-    let r = c .before .before in
-    picks depth twelve (a .args .t1) (a .pre) (lit≤ tt) _
-    (r .before .before .before .ready .ensures) (r .before .before .ready2 .ensures) (r .before .ready3 .ensures) (r .ready4 .ensures)
-    (c .before .look .ensures) (c .if1 .taken)
+returns c = let a = c .before .before in picks (a .args .self) (a .pre) _ (c .before .next-ready .ensures) (c .if1 .taken)
 
 returns-2 : tie.Need-returns-2
-returns-2 c =
-    let a = c .before .before .before .before .before .before .before .before .before .before in
-    let r = c .before .before in
-    picks-none depth twelve (a .args .t1) (a .pre) (lit≤ tt) _
-    (r .before .before .before .ready .ensures) (r .before .before .ready2 .ensures) (r .before .ready3 .ensures) (r .ready4 .ensures)
-    (c .before .look .ensures) (c .if1 .left)
+returns-2 c = let a = c .before .before in picks-none (a .args .self) (a .pre) _ (c .before .next-ready .ensures) (c .if1 .left)
 
 pub pick-spec : {M : Type 1} → statement M
-pick-spec =
-    tie.close
-    (tie.spec
-    element-copy-out-zero
-    element-copy-out-one
-    element-copy-out-two
-    element-copy-out-three
-    ready-requires
-    ready-requires-2
-    ready-requires-3
-    ready-requires-4
-    look-requires
-    returns
-    returns-2)
+pick-spec = tie.close (tie.spec next-ready-requires returns returns-2)

@@ -1,10 +1,7 @@
 use native.Mathlib.Omega.{arith}
-use lib.Dec.{lit≤}
 use borrow.Author.Needs.{needs}
-use Rattle.paper.specs.Settings.{twelve}
 use Rattle.paper.specs.Channel.{arrive}
 use Rattle.paper.specs.declared.Refusal.the-variants.{BadKind}
-use Rattle.queue.specs.Held.{depth}
 use Rattle.channel.proofs.Laws.{queue-sound, refuses, bad-kind, arrives}
 use Rattle.channel.proofs.Channel.arrive.Statement.{statement}
 use Rattle.channel.proofs.Channel.arrive.Tie as tie
@@ -16,21 +13,21 @@ returns : tie.Need-returns
 returns c =
     let a = c .before .before in
     let x = a .args .self in
-    rw (c .refuse .ensures) (refuses depth twelve x (a .pre) (lit≤ tt) (arrive (a .args .kind) (a .args .byte)) BadKind
-    (bad-kind twelve x _ _ (c .before .if1 .taken)))
+    rw (c .refuse .ensures) (refuses x (a .pre) (arrive (a .args .kind) (a .args .byte)) BadKind
+    (bad-kind x _ _ (c .before .if1 .taken)))
 
 arrival-requires : tie.Need-arrival-requires
 arrival-requires c κs = search needs
 
 place-requires : tie.Need-place-requires
-place-requires c κs = queue-sound depth twelve (c .before .before .before .before .before .args .self)
+place-requires c κs = queue-sound (c .before .before .before .before .before .args .self)
     (c .before .before .before .before .before .pre)
 
 returns-2 : tie.Need-returns-2
 returns-2 c =
     let a = c .before .before .before .before .before .before .before .before in
     let x = a .args .self in
-    arrives depth twelve x (a .pre) (lit≤ tt) (a .args .kind) (a .args .byte) (omega arith) _ (c .before .before .before .before .arrival .ensures) _
+    arrives x (a .pre) (a .args .kind) (a .args .byte) (omega arith) _ (c .before .before .before .before .arrival .ensures) _
     (c .before .before .place .ensures)
 
 pub arrive-spec : {M : Type 1} → statement M

@@ -1,11 +1,8 @@
 use native.Mathlib.Omega.{arith}
-use lib.Dec.{lit≤}
 use denote.Ref.{now}
 use borrow.Author.Needs.{needs}
-use Rattle.paper.specs.Settings.{twelve}
 use Rattle.paper.specs.Channel.{read}
 use Rattle.paper.specs.declared.Refusal.the-variants.{TooMany, NoRoom}
-use Rattle.queue.specs.Held.{depth}
 use Rattle.channel.proofs.Laws.{queue-sound, refuses, too-many, place-beyond, no-room, room, hands}
 use Rattle.channel.proofs.Channel.read.Statement.{statement}
 use Rattle.channel.proofs.Channel.read.Tie as tie
@@ -20,8 +17,8 @@ returns : tie.Need-returns
 returns c =
     let a = c .before .before .before in
     let x = a .args .self in
-    rw (c .refuse .ensures) (refuses depth twelve x (a .pre) (lit≤ tt) (read (a .args .n) (a .args .place) (now (a .args .buffer))) TooMany
-    (too-many twelve x _ _ _ (c .before .if1 .taken)))
+    rw (c .refuse .ensures) (refuses x (a .pre) (read (a .args .n) (a .args .place) (now (a .args .buffer))) TooMany
+    (too-many x _ _ _ (c .before .if1 .taken)))
 
 refuse-requires-2 : tie.Need-refuse-requires-2
 refuse-requires-2 c κs = search needs
@@ -30,8 +27,8 @@ returns-2 : tie.Need-returns-2
 returns-2 c =
     let a = c .before .before .before .before in
     let x = a .args .self in
-    rw (c .refuse2 .ensures) (refuses depth twelve x (a .pre) (lit≤ tt) (read (a .args .n) (a .args .place) (now (a .args .buffer))) NoRoom
-    (place-beyond twelve x _ _ _ (omega arith) (c .before .if2 .taken)))
+    rw (c .refuse2 .ensures) (refuses x (a .pre) (read (a .args .n) (a .args .place) (now (a .args .buffer))) NoRoom
+    (place-beyond x _ _ _ (omega arith) (c .before .if2 .taken)))
 
 sub-if3 : tie.Need-sub-if3
 sub-if3 c = search needs
@@ -46,14 +43,14 @@ returns-3 : tie.Need-returns-3
 returns-3 c =
     let a = c .before .before .before .before .before in
     let x = a .args .self in
-    rw (c .refuse3 .ensures) (refuses depth twelve x (a .pre) (lit≤ tt) (read (a .args .n) (a .args .place) (now (a .args .buffer))) NoRoom
-    (no-room twelve x _ _ _ (omega arith) (omega arith) (c .before .if3 .taken)))
+    rw (c .refuse3 .ensures) (refuses x (a .pre) (read (a .args .n) (a .args .place) (now (a .args .buffer))) NoRoom
+    (no-room x _ _ _ (omega arith) (omega arith) (c .before .if3 .taken)))
 
 hand-over-requires : tie.Need-hand-over-requires
 hand-over-requires c κs =
     let a = c .before .before .before .before .before .before in
     let x = a .args .self in
-    (queue-sound depth twelve x (a .pre), omega arith)
+    (queue-sound x (a .pre), omega arith)
 
 same-length : tie.Need-same-length
 same-length c = search needs
@@ -62,9 +59,9 @@ returns-4 : tie.Need-returns-4
 returns-4 c =
     let a = c .before .before .before .before .before .before .before .before .before .before in
     let x = a .args .self in
-    let e = room twelve x (a .args .n) (a .args .place) (now (a .args .buffer)) (omega arith) (omega arith) (omega arith) in
+    let e = room x (a .args .n) (a .args .place) (now (a .args .buffer)) (omega arith) (omega arith) (omega arith) in
     let h = c .before .before .before .hand-over in
-    hands depth twelve x (a .pre) (lit≤ tt) (a .args .n) (a .args .place) (now (a .args .buffer)) e _ (h .ensures .0) _ (h .ensures .1)
+    hands x (a .pre) (a .args .n) (a .args .place) (now (a .args .buffer)) e _ (h .ensures .0) _ (h .ensures .1)
 
 pub read-spec : {M : Type 1} → statement M
 read-spec =

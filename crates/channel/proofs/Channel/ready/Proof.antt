@@ -1,9 +1,7 @@
 use mathlib.Core.Path.{ap}
 use lib.Dec.{leb}
 use borrow.Author.Needs.{needs}
-use Rattle.paper.specs.Settings.{twelve}
-use Rattle.paper.specs.Channel.{settings}
-use Rattle.queue.specs.Held.{depth}
+use Rattle.paper.specs.Channel.{takeSettings}
 use Rattle.queue.proofs.Laws.{count-is}
 use Rattle.channel.specs.Held.{channelIn}
 use Rattle.channel.specs.Promise.{atThreshold}
@@ -19,7 +17,7 @@ unfolding atThreshold channelIn
 returns c =
     let a = c .before .before in
     let x = a .args .self in
-    ap (leb (x .settings .threshold)) (count-is depth depth (x .queue) (queue-sound depth twelve x (a .pre)))
+    ap (leb (x .settings .threshold)) (count-is _ _ (x .queue) (queue-sound x (a .pre)))
 
 pub ready-spec : {M : Type 1} → statement M
 ready-spec = tie.close (tie.spec cast-threshold returns)

@@ -1,6 +1,3 @@
-use lib.Dec.{lit≤}
-use Rattle.paper.specs.Settings.{twelve}
-use Rattle.queue.specs.Held.{depth}
 use Rattle.channel.proofs.Laws.{shows}
 use Rattle.channel.proofs.Channel.state.Statement.{statement}
 use Rattle.channel.proofs.Channel.state.Tie as tie
@@ -9,7 +6,7 @@ returns : tie.Need-returns
 returns c =
     let a = c .before in
     let x = a .args .self in
-    shows depth twelve x (a .pre) (lit≤ tt)
+    shows x (a .pre)
 
 pub state-spec : {M : Type 1} → statement M
 state-spec = tie.close (tie.spec returns)

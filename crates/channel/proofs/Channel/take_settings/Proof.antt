@@ -1,9 +1,6 @@
 use mathlib.Core.Path.{sym, _∙_}
-use lib.Dec.{lit≤}
 use denote.Ref.{now}
 use borrow.Author.Needs.{needs}
-use Rattle.paper.specs.Settings.{twelve}
-use Rattle.queue.specs.Held.{depth}
 use Rattle.channel.specs.Promise.{given}
 use Rattle.channel.proofs.Laws.{takes, refuses-settings}
 use Rattle.channel.proofs.Channel.take_settings.Statement.{statement}
@@ -25,14 +22,14 @@ returns : tie.Need-returns
 returns c =
     let a = c .before .before .before .before .before .before in
     let x = a .args .self in
-    rw (c .refuse .ensures) (refuses-settings depth twelve x (a .pre) (lit≤ tt) (now (a .args .bytes)) _
+    rw (c .refuse .ensures) (refuses-settings x (a .pre) (now (a .args .bytes)) _
     (sym (c .before .before .before .before .judge .ensures) ∙ c .before .before .judged .given .1))
 
 returns-2 : tie.Need-returns-2
 returns-2 c =
     let a = c .before .before .before .before .before in
     let x = a .args .self in
-    takes depth twelve x (a .pre) (lit≤ tt) (now (a .args .bytes)) _ (sym (c .before .before .before .judge .ensures) ∙ c .before .judged2 .given .1)
+    takes x (a .pre) (now (a .args .bytes)) _ (sym (c .before .before .before .judge .ensures) ∙ c .before .judged2 .given .1)
 
 pub take-settings-spec : {M : Type 1} → statement M
 take-settings-spec =

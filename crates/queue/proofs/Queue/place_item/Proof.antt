@@ -3,7 +3,7 @@ use native.Mathlib.Omega.{arith}
 use lib.ListN.{length}
 use borrow.Author.Tests.{lt-ltb, le-ltb}
 use borrow.Author.Needs.{needs}
-use Rattle.queue.specs.Held.{depth, queueIn, placing}
+use Rattle.queue.specs.Held.{places, depth, queueIn, placing}
 use Rattle.queue.proofs.Laws.{count-is, close}
 use Rattle.queue.proofs.Queue.place_item.Statement.{statement}
 use Rattle.queue.proofs.Queue.place_item.Tie as tie
@@ -15,7 +15,7 @@ returns : tie.Need-returns
 unfolding placing
 returns c =
     let a = c .before .before .before in
-    let room : length (queueIn (a .args .self) .slots) < depth = omega (arith, count-is depth depth (a .args .self) (a .pre)) in
+    let room : length (queueIn (a .args .self) .slots) < depth = omega (arith, count-is places depth (a .args .self) (a .pre)) in
     rw (c .store .ensures, lt-ltb _ _ room)
 
 overrun-requires : tie.Need-overrun-requires
@@ -26,7 +26,7 @@ returns-2 : tie.Need-returns-2
 unfolding placing
 returns-2 c =
     let a = c .before .before .before in
-    let full : depth ≤ length (queueIn (a .args .self) .slots) = omega (arith, count-is depth depth (a .args .self) (a .pre)) in
+    let full : depth ≤ length (queueIn (a .args .self) .slots) = omega (arith, count-is places depth (a .args .self) (a .pre)) in
     rw (c .overrun .ensures, le-ltb _ _ full)
 
 pub place-item-spec : {M : Type 1} → statement M

@@ -8,14 +8,14 @@ use Rattle.transmitter.proofs.Transmitter.load.Statement.{statement}
 use Rattle.transmitter.proofs.Transmitter.load.Tie as tie
 
 abbrev Inv-loop : tie.InvT-loop
-Inv-loop self bytes count room taken queue₀ i₀ queue i = (i ≤ taken) × (queue ≡ writtenTo transmitDepth self bytes i)
+Inv-loop self bytes count room taken queue₀ i₀ queue i = (i ≤ taken) × (queue ≡ writtenTo self bytes i)
 
 abbrev μ-loop : tie.MeasureT-loop
 μ-loop self bytes count room taken queue₀ i₀ queue i = taken - i
 
 sub-room : tie.Need-sub-room Inv-loop μ-loop
 unfolding transmitDepth
-sub-room c = let a = c .before in omega (arith, parts transmitDepth (a .args .self) (a .pre) .count, a .pre .sending)
+sub-room c = let a = c .before in omega (arith, parts (a .args .self) (a .pre) .count, a .pre .sending)
 
 least-requires : tie.Need-least-requires Inv-loop μ-loop
 least-requires c κs = search needs
@@ -23,7 +23,7 @@ least-requires c κs = search needs
 loop-holds : tie.Need-loop-holds Inv-loop μ-loop
 loop-holds c =
     let a = c .before .before .before in
-    (omega arith, load-start transmitDepth (a .args .self) (a .pre) (a .args .bytes .now))
+    (omega arith, load-start (a .args .self) (a .pre) (a .args .bytes .now))
 
 shared-slice-read-queue : tie.Need-shared-slice-read-queue Inv-loop μ-loop
 shared-slice-read-queue c = search needs
@@ -45,20 +45,24 @@ unfolding transmitDepth
 loop-again c =
     let a = c .before .before .before .before .before .before in
     let l = c .before .before .loop in
-    (omega arith, rw (l .inv .1) (load-step transmitDepth (a .args .self) (a .pre) (a .args .bytes .now) (l .i) (omega arith) (omega arith)))
+    (omega arith, rw (l .inv .1) (load-step (a .args .self) (a .pre) (a .args .bytes .now) (l .i) (omega arith) (omega arith)))
 
 add-count : tie.Need-add-count Inv-loop μ-loop
 add-count c = search needs
 
+with-queue-requires : tie.Need-with-queue-requires Inv-loop μ-loop
+with-queue-requires c κs = search needs
+
 returns : tie.Need-returns Inv-loop μ-loop
 unfolding transmitDepth
 returns c =
-    let a = c .before .before .before .before .before in
-    let l = c .before .loop in
-    let taken = c .before .before .before .least in
+    let a = c .before .before .before .before .before .before in
+    let l = c .before .before .loop in
+    let taken = c .before .before .before .before .least in
     let e : l .i ≡ taken .result = omega arith in
-    load-end transmitDepth (a .args .self) (a .pre) (a .args .bytes .now) (taken .result) (taken .ensures)
-    (l .inv .1 ∙ ap (writtenTo transmitDepth (a .args .self) (a .args .bytes .now)) e)
+    rw (c .with-queue .ensures)
+    (load-end (a .args .self) (a .pre) (a .args .bytes .now) (taken .result) (taken .ensures)
+    (l .inv .1 ∙ ap (writtenTo (a .args .self) (a .args .bytes .now)) e))
 
 pub load-spec : {M : Type 1} → statement M
 load-spec =
@@ -76,4 +80,5 @@ load-spec =
     loop-less
     loop-again
     add-count
+    with-queue-requires
     returns)

@@ -20,7 +20,7 @@ close-up-requires : tie.Need-close-up-requires
 unfolding transmitDepth
 close-up-requires c κs =
     let a = c .before .before .before .before in
-    let e = length-bytes transmitDepth (a .args .t1) (a .pre .0) (omega arith) in
+    let e = length-bytes (a .args .t1) (a .pre .0) in
     (omega arith, rw e)
 
 sub-count : tie.Need-sub-count
@@ -29,19 +29,22 @@ sub-count c = search needs
 owes-nl-requires : tie.Need-owes-nl-requires
 owes-nl-requires c κs = search needs
 
+with-queue-requires : tie.Need-with-queue-requires
+with-queue-requires c κs = search needs
+
 returns : tie.Need-returns
 returns c =
-    let a = c .before .before .before .before .before .before .before .before in
-    rw (c .if1 .taken)
-    (head-sent transmitDepth (a .args .s) (a .args .t1) (a .pre .0) (omega arith) (a .pre .1) true (c .before .before .before .close-up .ensures)
-    (sym (c .if1 .taken) ∙ c .before .owes-nl .ensures))
+    let a = c .before .before .before .before .before .before .before .before .before in
+    rw (c .before .with-queue .ensures, c .if1 .taken)
+    (head-sent (a .args .s) (a .args .t1) (a .pre .0) (a .pre .1) true (c .before .before .before .before .close-up .ensures)
+    (sym (c .if1 .taken) ∙ c .before .before .owes-nl .ensures))
 
 returns-2 : tie.Need-returns-2
 returns-2 c =
-    let a = c .before .before .before .before .before .before .before .before in
-    rw (c .if1 .left)
-    (head-sent transmitDepth (a .args .s) (a .args .t1) (a .pre .0) (omega arith) (a .pre .1) false (c .before .before .before .close-up .ensures)
-    (sym (c .if1 .left) ∙ c .before .owes-nl .ensures))
+    let a = c .before .before .before .before .before .before .before .before .before in
+    rw (c .before .with-queue .ensures, c .if1 .left)
+    (head-sent (a .args .s) (a .args .t1) (a .pre .0) (a .pre .1) false (c .before .before .before .before .close-up .ensures)
+    (sym (c .if1 .left) ∙ c .before .before .owes-nl .ensures))
 
 pub send-head-spec : {M : Type 1} → statement M
 send-head-spec =
@@ -53,5 +56,6 @@ send-head-spec =
     close-up-requires
     sub-count
     owes-nl-requires
+    with-queue-requires
     returns
     returns-2)
