@@ -1,4 +1,5 @@
-"""What the tests share: the Rattle kit, how a program for x86-64 is run, and how C is linked with the proved library."""
+"""What the tests share: the Rattle kit, how a program for x86-64 is run, how C is linked with the proved library, and the reference."""
+import functools
 import os
 import platform
 import shutil
@@ -9,6 +10,15 @@ ROOT = os.path.dirname(os.path.dirname(os.path.realpath(__file__)))
 WORK = os.path.join(ROOT, 'target', 'tests')
 HEADERS = os.path.join(ROOT, 'include')
 LIBRARY = os.path.join(ROOT, 'target', 'staticlib', 'libpolling.a')
+REFERENCE = os.path.join(ROOT, 'tests', 'reference')
+BUILT = os.path.join(ROOT, 'target', 'reference')
+CARGO = '--release', '--offline', '--manifest-path', os.path.join(REFERENCE, 'Cargo.toml'), '--target-dir', BUILT
+
+
+def content(name):
+    """What a file of the repository has."""
+    with open(os.path.join(ROOT, name), 'rb') as file:
+        return file.read()
 
 
 def told(*command, **words):
@@ -61,3 +71,15 @@ def c_program(source, headers=HEADERS):
     told(c_compiler(), '-std=c11', '-O2', '-Wall', '-Wextra', '-Werror', '-I', headers, '-static', '-o', program,
          os.path.join(ROOT, source), library())
     return emulator() + [program]
+
+
+@functools.cache
+def reference_program():
+    """The second implementation of the paper, tests/reference, built by cargo; nothing comes from a registry."""
+    told('cargo', 'build', *CARGO)
+    return os.path.join(BUILT, 'release', 'reference')
+
+
+def reference(*words, given=b''):
+    """What the reference writes: ('frames', given=TRACE) are its answers, ('generate', 'mixed', SEED, LINES) is a random trace."""
+    return subprocess.run([reference_program(), *map(str, words)], input=given, stdout=subprocess.PIPE, check=True).stdout
