@@ -8,6 +8,7 @@ import sys
 
 ROOT = os.path.dirname(os.path.dirname(os.path.realpath(__file__)))
 WORK = os.path.join(ROOT, 'target', 'tests')
+FRAMES = [os.path.join(ROOT, 'papergrotto'), 'frames']       # the frame program's command
 HEADERS = os.path.join(ROOT, 'include')
 LIBRARY = os.path.join(ROOT, 'target', 'staticlib', 'libpolling.a')
 REFERENCE = os.path.join(ROOT, 'tests', 'reference')
