@@ -7,19 +7,10 @@ import subprocess
 import sys
 
 ROOT = os.path.dirname(os.path.dirname(os.path.realpath(__file__)))
-WORK = os.path.join(ROOT, 'target', 'tests')
 FRAMES = [os.path.join(ROOT, 'papergrotto'), 'frames']       # the frame program's command
+WORK = os.path.join(ROOT, 'target', 'tests')
 HEADERS = os.path.join(ROOT, 'include')
 LIBRARY = os.path.join(ROOT, 'target', 'staticlib', 'libpolling.a')
-REFERENCE = os.path.join(ROOT, 'tests', 'reference')
-BUILT = os.path.join(ROOT, 'target', 'reference')
-CARGO = '--release', '--offline', '--manifest-path', os.path.join(REFERENCE, 'Cargo.toml'), '--target-dir', BUILT
-
-
-def content(name):
-    """What a file of the repository has."""
-    with open(os.path.join(ROOT, name), 'rb') as file:
-        return file.read()
 
 
 def told(*command, **words):
@@ -28,6 +19,12 @@ def told(*command, **words):
     if ran.returncode != 0:
         sys.exit(f'{" ".join(command)} failed:\n{ran.stdout.decode()}{ran.stderr.decode()}')
     return ran.stdout.decode().strip()
+
+
+def content(name):
+    """What a file of the repository has."""
+    with open(os.path.join(ROOT, name), 'rb') as file:
+        return file.read()
 
 
 def kit():
@@ -74,9 +71,14 @@ def c_program(source, headers=HEADERS):
     return emulator() + [program]
 
 
+# the reference: the second implementation of the paper, in tests/reference
+BUILT = os.path.join(ROOT, 'target', 'reference')
+CARGO = '--release', '--offline', '--manifest-path', os.path.join(ROOT, 'tests', 'reference', 'Cargo.toml'), '--target-dir', BUILT
+
+
 @functools.cache
 def reference_program():
-    """The second implementation of the paper, tests/reference, built by cargo; nothing comes from a registry."""
+    """The reference, built by cargo; nothing comes from a registry."""
     told('cargo', 'build', *CARGO)
     return os.path.join(BUILT, 'release', 'reference')
 
