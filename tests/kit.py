@@ -1,4 +1,5 @@
-"""What the tests share: the Rattle kit, how a program for x86-64 is run, and how C is linked with the proved library."""
+"""What the tests share: the Rattle kit, how a program for x86-64 is run, how C is linked with the proved library, and the reference."""
+import functools
 import os
 import platform
 import shutil
@@ -6,6 +7,7 @@ import subprocess
 import sys
 
 ROOT = os.path.dirname(os.path.dirname(os.path.realpath(__file__)))
+FRAMES = [os.path.join(ROOT, 'papergrotto'), 'frames']       # the frame program's command
 WORK = os.path.join(ROOT, 'target', 'tests')
 HEADERS = os.path.join(ROOT, 'include')
 LIBRARY = os.path.join(ROOT, 'target', 'staticlib', 'libpolling.a')
@@ -17,6 +19,12 @@ def told(*command, **words):
     if ran.returncode != 0:
         sys.exit(f'{" ".join(command)} failed:\n{ran.stdout.decode()}{ran.stderr.decode()}')
     return ran.stdout.decode().strip()
+
+
+def content(name):
+    """What a file of the repository has."""
+    with open(os.path.join(ROOT, name), 'rb') as file:
+        return file.read()
 
 
 def kit():
@@ -61,3 +69,20 @@ def c_program(source, headers=HEADERS):
     told(c_compiler(), '-std=c11', '-O2', '-Wall', '-Wextra', '-Werror', '-I', headers, '-static', '-o', program,
          os.path.join(ROOT, source), library())
     return emulator() + [program]
+
+
+# the reference: the second implementation of the paper, in tests/reference
+BUILT = os.path.join(ROOT, 'target', 'reference')
+CARGO = '--release', '--offline', '--manifest-path', os.path.join(ROOT, 'tests', 'reference', 'Cargo.toml'), '--target-dir', BUILT
+
+
+@functools.cache
+def reference_program():
+    """The reference, built by cargo; nothing comes from a registry."""
+    told('cargo', 'build', *CARGO)
+    return os.path.join(BUILT, 'release', 'reference')
+
+
+def reference(*words, given=b''):
+    """What the reference writes: ('frames', given=TRACE) are its answers, ('generate', 'mixed', SEED, LINES) is a random trace."""
+    return subprocess.run([reference_program(), *map(str, words)], input=given, stdout=subprocess.PIPE, check=True).stdout

@@ -1,34 +1,39 @@
 """What the longer trace claims to meet: a table of named conditions, in groups.
 
-A condition is a name and a test of one record: a line of the trace, the reference's answer to it, the card before and
-after, and the names of what happened in between. A condition is met when some record passes its test; those of the
-group ALWAYS when every record does.
+A condition is a name and a test of one record: a line of the trace, the reference's answer to it, and the card before and
+after. A condition is met when some record passes its test; those of the group ALWAYS when every record does.
 """
-import copy
+import json
+import types
 
 PASS, DISCARD, NULL, MARK = 1, 2, 3, 4
+GOOD, BREAK = 0, 3
 CR, NL = 0x0D, 0x0A
 LENGTHS = {1: 4, 2: 3, 3: 2, 4: 2, 5: 3, 6: 3, 7: 2, 8: 1, 9: 2, 10: 2}      # the least listed length of each frame
 ROWS = [(CR, NL), (CR, CR), (NL, NL), (NL, CR), (None, NL), (None, CR), (None, NL), (None, CR)]
 
 
+class Told(types.SimpleNamespace):
+    """A card or a channel as the reference's account tells it."""
+
+    def field(self, number):
+        return self.settings[number - 1]
+
+
 class Record:
     """One line of the trace and what became of it."""
 
-    def __init__(self, reference, card, line, past):
-        self.line, self.past = line, past
-        self.frame = reference.frame_of(line)
+    def __init__(self, line, before, after, past):
+        self.line, self.before, self.after, self.past = line, before, after, past
+        self.answer = after.answer
+        self.frame = None if self.answer == [11] else bytes.fromhex(line.decode('ascii'))
         self.call = self.frame[0] if self.frame else None
-        self.before = copy.deepcopy(card)
-        reference.watch = self.events = []
-        self.answer = reference.answer(card, line)
-        reference.watch = None
-        self.after = copy.deepcopy(card)
         self.served = self.answer[0] == 0
         named = self.frame is not None and self.call != 8 and self.frame[1] < 4
         self.number = self.frame[1] if named else None
-        self.old = self.before.channels[self.number] if named else None     # the channel named, before and after
-        self.new = self.after.channels[self.number] if named else None
+        self.old = before.channels[self.number] if named else None          # the channel named, before and after
+        self.new = after.channels[self.number] if named else None
+        self.events = events_of(self)
 
     def is_call(self, number):
         return self.call == number and self.old is not None
@@ -43,15 +48,47 @@ class Record:
         return self.answer == list(numbers)
 
 
-def records_of(reference, data):
-    card, past = reference.Card(), []
-    for line in reference.lines_of(data):
-        past.append(Record(reference, card, line, past[:]))
+def records_of(lines, account):
+    """The records of a trace's lines, from the account that the reference gives of them."""
+    cards = [json.loads(told, object_hook=lambda parts: Told(**parts)) for told in account.splitlines()]
+    past = []
+    for line, before, after in zip(lines, cards, cards[1:]):
+        past.append(Record(line, before, after, past[:]))
     return past
 
 
-def plain(channel):
-    return vars(channel)
+# ---- what happened between the card before and the card after
+
+def events_of(r):
+    if r.is_call(1) and r.served:
+        return {0: ['stored'], 2: ['lost']}.get(r.answer[1], []) + [end_of_arrival(r)]
+    return [turned(r.old, r.new)] if r.is_call(4) else []
+
+
+def end_of_arrival(r):
+    """The step that an arrival ended in, by the mark and the settings that it found."""
+    kind, byte = r.frame[2:]
+    if kind == BREAK:
+        return 'break kept' if r.old.field(2) else 'break ignored'
+    if kind != GOOD and r.old.field(1) != PASS:
+        return {DISCARD: 'damaged discarded', NULL: 'damaged null', MARK: 'damaged marked'}[r.old.field(1)]
+    if r.old.literal_mark or r.new.literal_mark:
+        return 'step 4' if r.old.literal_mark else 'step 5'
+    flow = {r.old.field(11): 'XON', r.old.field(12): 'XOFF'} if r.old.field(5) else {}
+    return flow.get(byte % 128 if r.old.field(3) else byte, 'step 7')
+
+
+def turned(old, new):
+    """What a line turn did."""
+    if old.waiting_special != new.waiting_special:
+        return 'special sent'
+    if old.owed_nl != new.owed_nl:
+        return 'owed NL sent' if old.owed_nl else 'NL sent as CR'
+    if old.transmit_queue != new.transmit_queue:
+        return 'head sent'
+    if old.stopped:
+        return 'held, stopped'
+    return 'held, CTS' if old.field(9) and not old.cts else 'nothing to send'
 
 
 # ---- always
@@ -60,13 +97,18 @@ def always():
     yield 'an answer begins with 00 or a refusal number that the program can give; 4, 8 and 9 it cannot', lambda r: \
         r.answer[0] in (0, 1, 2, 3, 5, 6, 7, 10, 11)
     yield 'a refusal changes nothing', lambda r: r.served or (
-        [plain(c) for c in r.before.channels] == [plain(c) for c in r.after.channels] and r.before.last == r.after.last)
+        r.before.channels == r.after.channels and r.before.last_named == r.after.last_named)
     yield 'a call on one channel alters no other', lambda r: all(
-        i == r.number or plain(r.before.channels[i]) == plain(r.after.channels[i]) for i in range(4))
-    yield 'only a pick that names a channel moves the place', lambda r: r.before.last == r.after.last or (
-        r.call == 8 and r.answer == [0, r.after.last])
+        i == r.number or r.before.channels[i] == r.after.channels[i] for i in range(4))
+    yield 'only a pick that names a channel moves the place', lambda r: r.before.last_named == r.after.last_named or (
+        r.call == 8 and r.answer == [0, r.after.last_named])
     yield 'a refusal is its number alone, 5 with its field', lambda r: \
         r.served or len(r.answer) == (2 if r.answer[0] == 5 else 1)
+    # these two hold the account, and the events that are told from it, to the frames
+    yield 'settings that are taken are those of the frame', lambda r: not (r.is_call(7) and r.served) or \
+        r.new.settings == list(r.frame[2:])
+    yield 'XOFF stops the transmitter, and nothing else does', lambda r: r.old is None or (
+        r.new.stopped if r.happened('XOFF') else r.old.stopped or not r.new.stopped)
 
 
 # ---- refusals
@@ -84,8 +126,8 @@ def refusals():
         yield f'refusal 5: field {field}', lambda r, f=field: r.refused(5, f)
     for s in (0, 5, 255):
         yield f'refusal 6: special {s}', lambda r, s=s: r.refused(6) and r.frame[2] == s
-    yield 'refusal 7: the same special again', lambda r: r.refused(7) and r.old.special == r.old.field(10 + r.frame[2])
-    yield 'refusal 7: another one', lambda r: r.refused(7) and r.old.special != r.old.field(10 + r.frame[2])
+    yield 'refusal 7: the same special again', lambda r: r.refused(7) and r.old.waiting_special == r.old.field(10 + r.frame[2])
+    yield 'refusal 7: another one', lambda r: r.refused(7) and r.old.waiting_special != r.old.field(10 + r.frame[2])
     for value in (2, 255):
         yield f'refusal 10: CTS {value}', lambda r, v=value: r.refused(10) and r.frame[2] == v
     yield 'refusal 10 while CTS is 1', lambda r: r.refused(10) and r.old.cts == 1
@@ -146,7 +188,7 @@ def order():
                                (7, '5, field 1', lambda f: len(f) == 17 and f[2] == 255),
                                (7, '5, field 12', lambda f: len(f) == 17 and f[6] == 1 and f[12] == f[13])):
         yield f'1 before {name}', lambda r, n=number, t=test: r.refused(1) and r.call == n and t(r.frame)
-    yield '6 before 7', lambda r: r.refused(6) and r.old.special is not None
+    yield '6 before 7', lambda r: r.refused(6) and r.old.waiting_special is not None
     yield '5: the length before the fields', lambda r: r.refused(5, 0) and r.frame[2:4] == b'\xff\xff'
     yield '5: the first of two bad fields', lambda r: r.refused(5, 2) and r.frame[11] > 1
     yield '5: all fields bad', lambda r: r.refused(5, 1) and r.frame[2:] == b'\xff' * 15
@@ -203,17 +245,17 @@ def taking():
     def took(test):
         return lambda r: r.is_call(7) and r.served and test(r)
 
-    yield 'clears the literal mark', took(lambda r: r.old.literal and not r.new.literal)
+    yield 'clears the literal mark', took(lambda r: r.old.literal_mark and not r.new.literal_mark)
     yield 'sets the transmitter running', took(lambda r: r.old.stopped and not r.new.stopped)
-    yield 'leaves a full receive queue', took(lambda r: len(r.old.items) == 12 and r.new.items == r.old.items)
-    yield 'leaves the transmit queue', took(lambda r: r.old.line and r.new.line == r.old.line)
-    yield 'leaves an owed NL', took(lambda r: r.old.owed and r.new.owed)
-    yield 'leaves a waiting special', took(lambda r: r.old.special is not None and r.new.special == r.old.special)
+    yield 'leaves a full receive queue', took(lambda r: len(r.old.receive_queue) == 12 and r.new.receive_queue == r.old.receive_queue)
+    yield 'leaves the transmit queue', took(lambda r: r.old.transmit_queue and r.new.transmit_queue == r.old.transmit_queue)
+    yield 'leaves an owed NL', took(lambda r: r.old.owed_nl and r.new.owed_nl)
+    yield 'leaves a waiting special', took(lambda r: r.old.waiting_special is not None and r.new.waiting_special == r.old.waiting_special)
     yield 'leaves CTS', took(lambda r: r.old.cts == 1 and r.new.cts == 1)
-    yield 'leaves the loss count', took(lambda r: r.old.losses and r.new.losses == r.old.losses)
-    yield 'refused, leaves mark and stop', lambda r: r.is_call(7) and not r.served and r.new.literal and r.new.stopped
+    yield 'leaves the loss count', took(lambda r: r.old.loss_count and r.new.loss_count == r.old.loss_count)
+    yield 'refused, leaves mark and stop', lambda r: r.is_call(7) and not r.served and r.new.literal_mark and r.new.stopped
     yield 'the cleared mark shows: XOFF is obeyed', lambda r: r.happened('XOFF') and any(
-        p.call == 7 and p.served and p.number == r.number and p.old.literal for p in r.past[-2:])
+        p.call == 7 and p.served and p.number == r.number and p.old.literal_mark for p in r.past[-2:])
 
 
 # ---- arrivals
@@ -241,29 +283,29 @@ def damage():
 
 def good_ff():
     def doubled(event):
-        return lambda r: r.happened(event, 'stored') and r.new.items[-1][:2] == ['doubled', 0xFF]
+        return lambda r: r.happened(event, 'stored') and r.new.receive_queue[-1][:2] == ['doubled', 0xFF]
 
     yield 'doubled as an ordinary character', doubled('step 7')
     yield 'doubled behind the literal mark', doubled('step 4')
     yield 'doubled as the literal-next character', doubled('step 5')
     yield 'doubled as a stored XON', doubled('XON')
-    yield 'stripped first: 7F', lambda r: r.happened('stored') and r.frame[3] == 0xFF and r.new.items[-1][:2] == ['plain', 0x7F] \
+    yield 'stripped first: 7F', lambda r: r.happened('stored') and r.frame[3] == 0xFF and r.new.receive_queue[-1][:2] == ['plain', 0x7F] \
         and r.old.field(1) == MARK
     for kind in ('doubled', 'damaged'):
         yield f'{kind} item read in another mode', lambda r, k=kind: r.is_call(2) and r.served and r.answer[1] and \
-            r.old.field(1) != MARK and any(item[0] == k for item in r.old.items[:r.answer[1]])
+            r.old.field(1) != MARK and any(item[0] == k for item in r.old.receive_queue[:r.answer[1]])
     yield 'plain FF read in mark mode', lambda r: r.is_call(2) and r.served and r.answer[1] and r.old.field(1) == MARK and \
-        any(item[:2] == ['plain', 0xFF] for item in r.old.items[:r.answer[1]])
+        any(item[:2] == ['plain', 0xFF] for item in r.old.receive_queue[:r.answer[1]])
 
 
 def endings():
     for row, gives in enumerate(ROWS):
         for name, byte, out in (('CR', CR, gives[0]), ('NL', NL, gives[1]), ('another', 0x0C, 0x0C)):
             yield f'row {row}: {name}', lambda r, row=row, b=byte, o=out: r.happened('step 7') and r.old.field(4) == row and \
-                r.frame[3] == b and (r.answer == [0, 1] if o is None else r.new.items[-1][:2] == ['plain', o])
+                r.frame[3] == b and (r.answer == [0, 1] if o is None else r.new.receive_queue[-1][:2] == ['plain', o])
     for name, byte in (('CR', CR), ('NL', NL)):
         yield f'stripped {name} is looked up', lambda r, b=byte: r.happened('step 7') and r.old.field(3) and \
-            r.frame[3] == b + 128 and r.new.items[-1][1] not in (b, b + 128)
+            r.frame[3] == b + 128 and r.new.receive_queue[-1][1] not in (b, b + 128)
         yield f'unstripped {name} plus 80 is not', lambda r, b=byte: r.happened('step 7', 'stored') and not r.old.field(3) and \
             r.frame[3] == b + 128 and r.old.field(4) == 7
         yield f'literal {name} is not', lambda r, b=byte: r.happened('step 4') and r.frame[3] == b and r.old.field(4) == 3
@@ -318,14 +360,14 @@ def literal():
                                ('null', 'damaged null', False), ('mark', 'damaged marked', False),
                                ('discard', 'damaged discarded', True)):
         yield f'between: {name}, the mark ' + ('stays' if stays else 'is cleared'), lambda r, e=event, s=stays: \
-            r.happened(e) and r.old.literal and r.new.literal == s
+            r.happened(e) and r.old.literal_mark and r.new.literal_mark == s
     yield 'between: a damaged character that passes is the literal one', lambda r: r.happened('step 4') and r.frame[2] in (1, 2)
-    yield 'between: a refused arrival, the mark stays', lambda r: r.refused(2) and r.new.literal
+    yield 'between: a refused arrival, the mark stays', lambda r: r.refused(2) and r.new.literal_mark
     for call, name in ((2, 'read'), (3, 'load'), (4, 'turn'), (5, 'CTS'), (6, 'special'), (10, 'state')):
-        yield f'between: {name}, the mark stays', lambda r, c=call: r.is_call(c) and r.served and r.new.literal
-    yield 'between: a pick, the mark stays', lambda r: r.call == 8 and any(c.literal for c in r.after.channels)
+        yield f'between: {name}, the mark stays', lambda r, c=call: r.is_call(c) and r.served and r.new.literal_mark
+    yield 'between: a pick, the mark stays', lambda r: r.call == 8 and any(c.literal_mark for c in r.after.channels)
     yield 'between: another channel\'s reset, the mark stays', lambda r: r.is_call(9) and \
-        any(c.literal for c in r.after.channels)
+        any(c.literal_mark for c in r.after.channels)
 
 
 def full_queue():
@@ -334,19 +376,19 @@ def full_queue():
 
     yield 'a lost XOFF stops', at_full(lambda r: r.happened('XOFF') and not r.old.stopped and r.new.stopped)
     yield 'a lost XON starts', at_full(lambda r: r.happened('XON') and r.old.stopped and not r.new.stopped)
-    yield 'a lost literal-next character sets the mark', at_full(lambda r: r.happened('step 5') and r.new.literal)
-    yield 'a lost literal one clears the mark', at_full(lambda r: r.happened('step 4') and not r.new.literal)
+    yield 'a lost literal-next character sets the mark', at_full(lambda r: r.happened('step 5') and r.new.literal_mark)
+    yield 'a lost literal one clears the mark', at_full(lambda r: r.happened('step 4') and not r.new.literal_mark)
     for event in ('break kept', 'damaged marked', 'damaged null'):
-        yield f'{event}, lost, clears the mark', at_full(lambda r, e=event: r.happened(e) and r.old.literal and not r.new.literal)
+        yield f'{event}, lost, clears the mark', at_full(lambda r, e=event: r.happened(e) and r.old.literal_mark and not r.new.literal_mark)
     for name in ('XON', 'XOFF'):
-        yield f'a swallowed {name} is not lost', lambda r, n=name: r.happened(n) and len(r.old.items) == 12 and r.answer == [0, 1]
-    yield 'a discarded character is not lost', lambda r: r.happened('damaged discarded') and len(r.old.items) == 12
-    yield 'an ignored break is not lost', lambda r: r.happened('break ignored') and len(r.old.items) == 12
-    yield 'a line ending that gives nothing is not lost', lambda r: r.happened('step 7') and len(r.old.items) == 12 and \
+        yield f'a swallowed {name} is not lost', lambda r, n=name: r.happened(n) and len(r.old.receive_queue) == 12 and r.answer == [0, 1]
+    yield 'a discarded character is not lost', lambda r: r.happened('damaged discarded') and len(r.old.receive_queue) == 12
+    yield 'an ignored break is not lost', lambda r: r.happened('break ignored') and len(r.old.receive_queue) == 12
+    yield 'a line ending that gives nothing is not lost', lambda r: r.happened('step 7') and len(r.old.receive_queue) == 12 and \
         r.answer == [0, 1]
-    yield 'the newest item gets the flag', at_full(lambda r: not any(i[2] for i in r.old.items) and r.new.items[-1][2] == 1)
-    yield 'the flag is set again', at_full(lambda r: r.old.items[-1][2] == 1)
-    yield 'a flag on an older item stays', at_full(lambda r: any(i[2] for i in r.old.items[:-1]) and not r.old.items[-1][2])
+    yield 'the newest item gets the flag', at_full(lambda r: not any(i[2] for i in r.old.receive_queue) and r.new.receive_queue[-1][2] == 1)
+    yield 'the flag is set again', at_full(lambda r: r.old.receive_queue[-1][2] == 1)
+    yield 'a flag on an older item stays', at_full(lambda r: any(i[2] for i in r.old.receive_queue[:-1]) and not r.old.receive_queue[-1][2])
 
 
 # ---- host and line
@@ -357,23 +399,23 @@ def reading():
 
     for n in (0, 1, 2, 4, 11, 12):
         yield f'read {n}', told(lambda r, count, flagged, n=n: r.frame[2] == n and count == n)
-    yield 'read 0 of some', told(lambda r, count, flagged: r.frame[2] == 0 and r.old.items)
+    yield 'read 0 of some', told(lambda r, count, flagged: r.frame[2] == 0 and r.old.receive_queue)
     yield 'read 1 of none', told(lambda r, count, flagged: r.frame[2] == 1 and count == 0)
     yield 'read more than wait', told(lambda r, count, flagged: 0 < count < r.frame[2])
-    yield 'read fewer than wait', told(lambda r, count, flagged: 0 < count == r.frame[2] < len(r.old.items))
+    yield 'read fewer than wait', told(lambda r, count, flagged: 0 < count == r.frame[2] < len(r.old.receive_queue))
     yield '36 bytes', told(lambda r, count, flagged: len(r.answer) == 39)
     yield 'overrun flag told', told(lambda r, count, flagged: flagged == 1)
     yield 'two overrun flags told', told(lambda r, count, flagged: flagged == 2)
-    yield 'overrun flag of a damaged item told', told(lambda r, count, flagged: flagged and r.old.items[count - 1][0] == 'damaged')
+    yield 'overrun flag of a damaged item told', told(lambda r, count, flagged: flagged and r.old.receive_queue[count - 1][0] == 'damaged')
     yield 'a read before the flagged item tells none', told(
-        lambda r, count, flagged: count and not flagged and any(i[2] for i in r.new.items))
-    yield 'room made by a read is taken again', lambda r: r.happened('stored') and len(r.new.items) == 12 and any(
-        p.is_call(2) and p.number == r.number and p.answer[1] in (1, 2) and len(p.old.items) == 12 for p in r.past[-3:])
+        lambda r, count, flagged: count and not flagged and any(i[2] for i in r.new.receive_queue))
+    yield 'room made by a read is taken again', lambda r: r.happened('stored') and len(r.new.receive_queue) == 12 and any(
+        p.is_call(2) and p.served and p.number == r.number and p.answer[1] in (1, 2) and len(p.old.receive_queue) == 12 for p in r.past[-3:])
 
 
 def loading():
     def took(test):
-        return lambda r: r.is_call(3) and r.served and test(len(r.frame) - 2, r.answer[1], len(r.old.line))
+        return lambda r: r.is_call(3) and r.served and test(len(r.frame) - 2, r.answer[1], len(r.old.transmit_queue))
 
     yield 'nothing, into an empty queue', took(lambda given, taken, had: given == 0 and had == 0)
     yield 'nothing, into a full queue', took(lambda given, taken, had: given == 0 and had == 12)
@@ -384,8 +426,8 @@ def loading():
     yield 'all taken into some room', took(lambda given, taken, had: given > 0 and taken == given and had > 0)
     yield 'a part taken', took(lambda given, taken, had: 0 < taken < given and had > 0)
     yield 'filled to the last place', took(lambda given, taken, had: 0 < taken and had > 0 and had + taken == 12)
-    yield 'the last of twelve is sent', lambda r: r.happened('head sent') and not r.new.line and any(
-        p.is_call(3) and len(p.new.line) == 12 for p in r.past[-12:])
+    yield 'the last of twelve is sent', lambda r: r.happened('head sent') and not r.new.transmit_queue and any(
+        p.is_call(3) and len(p.new.transmit_queue) == 12 for p in r.past[-12:])
 
 
 def turns():
@@ -393,28 +435,28 @@ def turns():
         return lambda r: r.happened(event) and test(r.old)
 
     yield 'nothing to send', went('nothing to send', lambda c: True)
-    yield 'special first, before the queue', went('special sent', lambda c: c.line and not c.stopped)
+    yield 'special first, before the queue', went('special sent', lambda c: c.transmit_queue and not c.stopped)
     yield 'special when stopped', went('special sent', lambda c: c.stopped)
     yield 'special when CTS holds', went('special sent', lambda c: c.field(9) and not c.cts)
     yield 'special when stopped and CTS holds', went('special sent', lambda c: c.stopped and c.field(9) and not c.cts)
-    yield 'special between CR and its NL', went('special sent', lambda c: c.owed)
-    yield 'special with nothing else', went('special sent', lambda c: not c.line and not c.owed)
-    yield 'stopped holds the queue', went('held, stopped', lambda c: c.line and not c.owed)
-    yield 'stopped holds the queue, CTS 1', went('held, stopped', lambda c: c.line and c.field(9) and c.cts)
-    yield 'stopped holds an owed NL', went('held, stopped', lambda c: c.owed)
-    yield 'CTS holds the queue', went('held, CTS', lambda c: c.line and not c.owed)
-    yield 'CTS holds an owed NL', went('held, CTS', lambda c: c.owed)
+    yield 'special between CR and its NL', went('special sent', lambda c: c.owed_nl)
+    yield 'special with nothing else', went('special sent', lambda c: not c.transmit_queue and not c.owed_nl)
+    yield 'stopped holds the queue', went('held, stopped', lambda c: c.transmit_queue and not c.owed_nl)
+    yield 'stopped holds the queue, CTS 1', went('held, stopped', lambda c: c.transmit_queue and c.field(9) and c.cts)
+    yield 'stopped holds an owed NL', went('held, stopped', lambda c: c.owed_nl)
+    yield 'CTS holds the queue', went('held, CTS', lambda c: c.transmit_queue and not c.owed_nl)
+    yield 'CTS holds an owed NL', went('held, CTS', lambda c: c.owed_nl)
     yield 'CTS 0 with field 9 off holds nothing', went('head sent', lambda c: not c.field(9) and not c.cts)
     yield 'CTS 1 with field 9 on sends', went('head sent', lambda c: c.field(9) and c.cts)
     yield 'queued NL as CR', went('NL sent as CR', lambda c: True)
-    yield 'queued NL as CR, two in a row', went('NL sent as CR', lambda c: c.line[:2] == [NL, NL])
-    yield 'owed NL before the queue', went('owed NL sent', lambda c: c.line)
-    yield 'owed NL before a full queue', went('owed NL sent', lambda c: len(c.line) == 12)
-    yield 'owed NL with an empty queue', went('owed NL sent', lambda c: not c.line)
+    yield 'queued NL as CR, two in a row', went('NL sent as CR', lambda c: c.transmit_queue[:2] == [NL, NL])
+    yield 'owed NL before the queue', went('owed NL sent', lambda c: c.transmit_queue)
+    yield 'owed NL before a full queue', went('owed NL sent', lambda c: len(c.transmit_queue) == 12)
+    yield 'owed NL with an empty queue', went('owed NL sent', lambda c: not c.transmit_queue)
     yield 'owed NL, field 10 since turned off', went('owed NL sent', lambda c: not c.field(10))
-    yield 'queued NL, field 10 off', went('head sent', lambda c: c.line[0] == NL)
-    yield 'queued CR, field 10 on', went('head sent', lambda c: c.line[0] == CR and c.field(10))
-    yield 'queued XOFF stops nothing', went('head sent', lambda c: c.line[0] == 0x13)
+    yield 'queued NL, field 10 off', went('head sent', lambda c: c.transmit_queue[0] == NL)
+    yield 'queued CR, field 10 on', went('head sent', lambda c: c.transmit_queue[0] == CR and c.field(10))
+    yield 'queued XOFF stops nothing', went('head sent', lambda c: c.transmit_queue[0] == 0x13)
 
 
 def special_characters():
@@ -422,12 +464,12 @@ def special_characters():
         return lambda r: r.is_call(6) and r.served and test(r)
 
     for s in (1, 2, 3, 4):
-        yield f'special {s}', asked(lambda r, s=s: r.frame[2] == s and r.new.special == r.old.field(10 + s))
+        yield f'special {s}', asked(lambda r, s=s: r.frame[2] == s and r.new.waiting_special == r.old.field(10 + s))
     yield 'sent as it was when asked, settings since changed', lambda r: r.happened('special sent') and \
         r.answer[2] not in r.old.settings[10:14]
     yield 'the present one after that', lambda r: r.happened('special sent') and r.answer[2] == r.old.field(14) == 0x64
     yield 'a special NL with field 10 on owes nothing', lambda r: r.happened('special sent') and r.answer[2] == NL and \
-        r.old.field(10) and not r.old.owed and not r.new.owed
+        r.old.field(10) and not r.old.owed_nl and not r.new.owed_nl
     yield 'sending XOFF stops nothing', lambda r: r.happened('head sent') and any(
         p.happened('special sent') and p.number == r.number and p.answer[2] == p.old.field(12) for p in r.past[-1:])
     yield 'asked again after it was sent', asked(lambda r: any(
@@ -439,7 +481,7 @@ def named(r):
 
 
 def ready(card):
-    return [len(c.items) >= c.field(8) for c in card.channels]
+    return [len(c.receive_queue) >= c.field(8) for c in card.channels]
 
 
 def since_pick(r):
@@ -454,23 +496,24 @@ def picking():
         p.call != 8 or p.answer[1] == 255 for p in r.past)
     yield 'four in a row, each named once', lambda r: len(r.past) > 3 and all(all(ready(p.before)) for p in r.past[-3:] + [r]) and \
         sorted(named(p) if named(p) is not None else 9 for p in r.past[-3:] + [r]) == [0, 1, 2, 3]
-    yield 'from 3 round to 0', lambda r: named(r) == 0 and r.before.last == 3 and any(ready(r.before)[1:])
-    yield 'one below its threshold is passed over', lambda r: named(r) is not None and (named(r) - r.before.last) % 4 > 1
-    yield 'the same again, alone', lambda r: named(r) is not None and named(r) == r.before.last
-    yield 'none, with some waiting', lambda r: r.call == 8 and r.answer[1] == 255 and any(c.items for c in r.before.channels)
+    yield 'from 3 round to 0', lambda r: named(r) == 0 and r.before.last_named == 3 and any(ready(r.before)[1:])
+    yield 'one below its threshold is passed over', lambda r: named(r) is not None and r.before.last_named is not None and \
+        (named(r) - r.before.last_named) % 4 > 1
+    yield 'the same again, alone', lambda r: named(r) is not None and named(r) == r.before.last_named
+    yield 'none, with some waiting', lambda r: r.call == 8 and r.answer[1] == 255 and any(c.receive_queue for c in r.before.channels)
     yield 'none: the place stays', lambda r: named(r) is not None and r.past[-1:] and any(
         p.call == 8 and p.answer[1] == 255 for p in since_pick(r)[:1]) and named(r) != ready(r.before).index(True)
     yield 'reset of the last named: the place stays', lambda r: named(r) is not None and any(
-        p.call == 9 and p.number == r.before.last for p in since_pick(r)) and named(r) != ready(r.before).index(True)
-    yield 'threshold reached exactly', lambda r: named(r) is not None and len(r.before.channels[named(r)].items) == \
+        p.call == 9 and p.number == r.before.last_named for p in since_pick(r)) and named(r) != ready(r.before).index(True)
+    yield 'threshold reached exactly', lambda r: named(r) is not None and len(r.before.channels[named(r)].receive_queue) == \
         r.before.channels[named(r)].field(8) > 1
-    yield 'threshold passed', lambda r: named(r) is not None and len(r.before.channels[named(r)].items) > \
+    yield 'threshold passed', lambda r: named(r) is not None and len(r.before.channels[named(r)].receive_queue) > \
         r.before.channels[named(r)].field(8)
     yield 'threshold 12, 11 waiting', lambda r: r.call == 8 and named(r) is None and any(
-        c.field(8) == 12 and len(c.items) == 11 for c in r.before.channels)
+        c.field(8) == 12 and len(c.receive_queue) == 11 for c in r.before.channels)
     yield 'threshold 12 reached', lambda r: named(r) is not None and r.before.channels[named(r)].field(8) == 12
     yield 'threshold 12 after a loss', lambda r: named(r) is not None and r.before.channels[named(r)].field(8) == 12 and \
-        r.before.channels[named(r)].losses
+        r.before.channels[named(r)].loss_count
     yield 'a lower threshold makes ready', lambda r: named(r) is not None and any(
         p.call == 7 and p.number == named(r) for p in since_pick(r)) and since_pick(r)[0].answer[1] == 255
     for call in (1, 3, 4, 5, 6, 7, 10):
@@ -490,20 +533,22 @@ def states():
         yield f'loss count {count}', told(lambda items, line, stopped, high, low, n=count: 256 * high + low == n)
     yield 'loss count above 300', told(lambda items, line, stopped, high, low: 256 * high + low > 300)
     yield 'loss count after the queue was read', told(lambda items, line, stopped, high, low: items == 0 and high + low > 0)
-    yield 'an owed NL doesn\'t count', lambda r: r.is_call(10) and r.old.owed
-    yield 'a waiting special doesn\'t count', lambda r: r.is_call(10) and r.old.special is not None
+    yield 'an owed NL doesn\'t count', lambda r: r.is_call(10) and r.old.owed_nl
+    yield 'a waiting special doesn\'t count', lambda r: r.is_call(10) and r.old.waiting_special is not None
 
 
 def resets():
-    names = ('items', 'line', 'stopped', 'losses', 'owed', 'cts', 'literal', 'special')
-    for name in names:
-        yield f'reset clears {name}', lambda r, n=name: r.is_call(9) and getattr(r.old, n) not in (None, 0, False, [])
+    def pending(channel, name):
+        return getattr(channel, name) not in (None, 0, False, [])
+
+    for name in ('receive_queue', 'transmit_queue', 'stopped', 'loss_count', 'owed_nl', 'cts', 'literal_mark', 'waiting_special'):
+        yield f'reset clears {name}', lambda r, n=name: r.is_call(9) and pending(r.old, n)
         yield f'reset leaves another channel\'s {name}', lambda r, n=name: r.is_call(9) and any(
-            getattr(c, n) not in (None, 0, False, []) for i, c in enumerate(r.after.channels) if i != r.number)
+            pending(c, n) for i, c in enumerate(r.after.channels) if i != r.number)
     yield 'reset gives the fresh settings', lambda r: r.is_call(9) and r.old.settings != r.new.settings
-    for name in ('owed', 'special'):
+    for name in ('owed_nl', 'waiting_special'):
         yield f'after reset a turn sends nothing, {name} was pending', lambda r, n=name: r.happened('nothing to send') and any(
-            p.is_call(9) and p.number == r.number and getattr(p.old, n) not in (None, False) for p in r.past[-1:])
+            p.is_call(9) and p.number == r.number and pending(p.old, n) for p in r.past[-1:])
 
 
 def spelling():

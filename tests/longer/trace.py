@@ -16,6 +16,10 @@ PASS, DISCARD, NULL, MARK = 1, 2, 3, 4
 GOOD, PARITY, FRAMING, BREAK = 0, 1, 2, 3
 CR, NL, XON, XOFF, QUOTE = 0x0D, 0x0A, 0x11, 0x13, 0x16
 
+# "Whole case, input"
+WHOLE_CASE = ('0700040100020200010200011113000016 010000FF 01000141 01000013 01000016 01000013 0100000D 08 '
+              '03000A42 0400 01000011 0400 0400 0A00 02000C 01040041').split()
+
 lines = []
 
 
@@ -157,12 +161,9 @@ def thresholds():
 
 
 def whole_case():
-    # "Whole case, input then output"; here the channel is fresh by reset, and no other channel has an item
-    raw('0700040100020200010200011113000016')
-    for line in '010000FF 01000141 01000013 01000016 01000013 0100000D 08 03000A42 0400 01000011 0400 0400 0A00'.split():
+    # here the channel is fresh by reset, and no other channel has an item
+    for line in WHOLE_CASE:
         raw(line)
-    raw('02000C')
-    raw('01040041')
     reset(0)
 
 

@@ -1,4 +1,4 @@
-// The frame program.
+// Program: the frame program. A frame of hexadecimal a line in, an answer a line out.
 fn main() {
     shell::start();
 }

@@ -2,6 +2,7 @@
 //! "Exact rules for the build: four serial channels".
 //! Comments in quotation marks quote the paper.
 
+pub mod account;
 pub mod card;
 pub mod fields;
 pub mod frames;

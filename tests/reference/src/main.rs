@@ -1,14 +1,15 @@
-//! The command line of the reference: the frame program, the stream form, the
-//! reads form, and the generators of random input for each.
+//! The command line of the reference: the frame program, its account, the
+//! stream form, the reads form, and the generators of random input for each.
 
 use reference::fields::{bytes_of_field, write_field, FILLING};
 use reference::generate::{self, streams, Profile};
 use reference::stream::{clean_front, read_stream, StreamRefusal};
-use reference::{frames, reads};
+use reference::{account, frames, reads};
 use std::io::{self, Read, Write};
 use std::process::ExitCode;
 
 const USAGE: &str = "usage: reference frames
+       reference account
        reference stream
        reference reads
        reference generate PROFILE SEED LINES
@@ -38,6 +39,7 @@ fn run(arguments: &[String], output: &mut Vec<u8>) -> Result<(), String> {
     let words: Vec<&str> = arguments.iter().map(String::as_str).collect();
     match words[..] {
         ["frames"] => output.extend(frames::program(&standard_input()?)),
+        ["account"] => output.extend(account::program(&standard_input()?).bytes()),
         ["stream"] => output.extend(answer_cases(&standard_input()?)?),
         ["reads"] => reads::program(&standard_input()?, output)?,
         ["generate", profile, seed, lines] => {

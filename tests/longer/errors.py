@@ -1,0 +1,65 @@
+"""The paper's "Errors that look right", each as an edit of the reference that the longer trace must tell from the right one."""
+import os
+import subprocess
+
+import kit
+
+# the error, a text of the reference's card.rs, and what stands in its place
+ERRORS = [
+    ('FF written bare', 'Item::Doubled => vec![0xFF, 0xFF]', 'Item::Doubled => vec![0xFF]'),
+    ('a damaged byte stripped', 'self.store_item(Item::Damaged(byte))',
+     'self.store_item(Item::Damaged(if self.settings.strip { byte % 128 } else { byte }))'),
+    ('FF doubled before the strip', 'let byte = if self.settings.strip {',
+     'if self.settings.strip && self.settings.mark_mode() && byte == 0xFF { return self.store_item(Item::Doubled); }\n'
+     'let byte = if self.settings.strip {'),
+    ('CR and NL swapped by two tests one after the other', 'match comes_out {',
+     'match if comes_out == Some(NL) { nl_gives } else { comes_out } {'),
+    ('room counted in bytes', 'self.receive_queue.len() < QUEUE_DEPTH',
+     'self.receive_queue.iter().chain([&WaitingItem { item, overrun: false }]).map(|waiting| waiting.item.image().len()).sum::<usize>()'
+     ' <= QUEUE_DEPTH'),
+    ('XOFF without effect because the queue is full', 'self.stopped = is_xoff;',
+     'self.stopped = is_xoff && self.receive_queue.len() < QUEUE_DEPTH;'),
+    ('a break told from a damaged 00 by the bytes', 'Kind::Break => self.arrival_step_1_break(),',
+     'Kind::FramingError if byte == 0x00 => self.arrival_step_1_break(),\nKind::Break => self.arrival_step_1_break(),'),
+]
+
+# the frame program alone: without the generators it is compiled in less than a second
+MAIN = '''
+mod card;
+mod frames;
+use std::io::{stdin, stdout, Read, Write};
+
+fn main() {
+    let mut trace = Vec::new();
+    stdin().read_to_end(&mut trace).expect("a trace");
+    stdout().write_all(&frames::program(&trace)).expect("someone who takes the answers");
+}
+'''
+
+
+def answers(card, trace):
+    """What the frame program answers with this text as its card.rs."""
+    folder = os.path.join(kit.WORK, 'errors')
+    os.makedirs(folder, exist_ok=True)
+    for name, text in (('main', MAIN), ('card', card), ('frames', source('frames'))):
+        with open(os.path.join(folder, name + '.rs'), 'w', encoding='utf-8') as file:
+            file.write(text)
+    program = os.path.join(folder, 'frames')
+    kit.told('rustc', '--edition', '2021', '--cap-lints', 'allow', '-o', program, os.path.join(folder, 'main.rs'))
+    return subprocess.run([program], input=trace, stdout=subprocess.PIPE, check=True).stdout
+
+
+def source(name):
+    return kit.content(f'tests/reference/src/{name}.rs').decode()
+
+
+def not_told(trace, right):
+    """The errors that the trace does not tell; first that what tells them is the edit."""
+    card = source('card')
+    if answers(card, trace) != right:
+        yield 'the reference without an edit answers otherwise'
+    for name, old, new in ERRORS:
+        if card.count(old) != 1:
+            yield f'{name}: its text does not stand once in card.rs'
+        elif answers(card.replace(old, new), trace) == right:
+            yield name
