@@ -66,7 +66,7 @@ static void turn(struct papergrotto_channel *channel)
 /* The host asks for characters. */
 static void read_to_host(struct papergrotto_channel *channel, size_t n)
 {
-    uint8_t buffer[PAPERGROTTO_IMAGE * PAPERGROTTO_DEPTH];
+    uint8_t buffer[PAPERGROTTO_IMAGE * PAPERGROTTO_MOST];
     struct papergrotto_told told = papergrotto_read(channel, n, buffer, sizeof buffer, 0);
 
     if (!served(told))

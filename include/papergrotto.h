@@ -1,10 +1,11 @@
-/* papergrotto.h: one serial channel in software, for the firmware of the box.
+/* papergrotto.h: all that C may call. One serial channel in software, for the firmware of the box,
+ * and the reader of marked streams.
  *
  * A polling loop keeps a record for each channel and lends it to these functions, which alter it
  * where it stands. Each is proved to give, for every input, the answer and the next record that the
- * paper's steps give (crates/polling; docs/PROMISES.md).
+ * paper's steps give (crates/papergrotto; docs/PROMISES.md).
  *
- * To link: 'rt staticlib polling' proves the library and writes target/staticlib/libpolling.a, for
+ * To link: 'rt staticlib papergrotto' proves the library and writes target/staticlib/libpapergrotto.a, for
  * x86-64 and with the C library. examples/polling.c is a loop to begin with.
  *
  * WHAT C MUST KEEP. A proof begins where its call begins, and takes for granted:
@@ -32,8 +33,13 @@
 extern "C" {
 #endif
 
-/* "a receive queue of 12 items, a transmit queue of 12 bytes" */
+/* "a receive queue of 12 items", and "Read n characters, n from 0 to 12": the most that a read asks
+ * for and a threshold names */
 #define PAPERGROTTO_DEPTH 12
+#define PAPERGROTTO_MOST 12
+
+/* "a transmit queue of 12 bytes" */
+#define PAPERGROTTO_TRANSMIT_DEPTH 12
 
 /* "Settings, 15 bytes" */
 #define PAPERGROTTO_SETTINGS 15
@@ -55,7 +61,7 @@ struct papergrotto_channel {
     } queue;
     struct {
         size_t count;
-        uint8_t bytes[PAPERGROTTO_DEPTH];
+        uint8_t bytes[PAPERGROTTO_TRANSMIT_DEPTH];
         bool owed;
         bool waits;
         uint8_t special;
@@ -80,7 +86,7 @@ struct papergrotto_told {
 enum papergrotto_refusal {
     PAPERGROTTO_SERVED = 0,
     PAPERGROTTO_BAD_KIND = 2,       /* kind above 3 */
-    PAPERGROTTO_TOO_MANY = 3,       /* more than 12 asked */
+    PAPERGROTTO_TOO_MANY = 3,       /* more than PAPERGROTTO_MOST asked */
     PAPERGROTTO_NO_ROOM = 4,        /* fewer than 3n bytes from the place to the buffer's end, or
                                        the place beyond the end */
     PAPERGROTTO_BAD_FIELD = 5,      /* settings not 15 bytes (field 0) or the first bad field;

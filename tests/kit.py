@@ -10,7 +10,7 @@ ROOT = os.path.dirname(os.path.dirname(os.path.realpath(__file__)))
 FRAMES = [os.path.join(ROOT, 'papergrotto'), 'frames']       # the frame program's command
 WORK = os.path.join(ROOT, 'target', 'tests')
 HEADERS = os.path.join(ROOT, 'include')
-LIBRARY = os.path.join(ROOT, 'target', 'staticlib', 'libpolling.a')
+LIBRARY = os.path.join(ROOT, 'target', 'staticlib', 'libpapergrotto.a')
 
 
 def told(*command, **words):
@@ -49,7 +49,7 @@ def library():
     """The proved static library; it is proved and written first, unless it is newer than all that it is made of."""
     sources = [os.path.join(folder, name) for folder, _, names in os.walk(os.path.join(ROOT, 'crates')) for name in names]
     if not os.path.exists(LIBRARY) or max(map(os.path.getmtime, sources)) > os.path.getmtime(LIBRARY):
-        told('rt', 'staticlib', 'polling')
+        told('rt', 'staticlib', 'papergrotto')
     return LIBRARY
 
 

@@ -48,7 +48,7 @@ static bool untouched(const struct guarded *made, int fill)
 }
 
 /* All fifteen fields: XON 51, XOFF 53, the other specials 61 and 62, the literal-next character 71 */
-static const uint8_t settings[PAPERGROTTO_SETTINGS] = {4, 1, 0, 7, 2, 1, 1, 12, 1, 1, 0x51, 0x53, 0x61, 0x62, 0x71};
+static const uint8_t settings[PAPERGROTTO_SETTINGS] = {4, 1, 0, 7, 2, 1, 1, PAPERGROTTO_MOST, 1, 1, 0x51, 0x53, 0x61, 0x62, 0x71};
 
 static void sizes(void)
 {

@@ -1,8 +1,9 @@
 -- Calls that keep their promises run as the paper does.
-use mathlib.Core.List.{List, _∷_, map}
+use mathlib.Core.List.{List, _∷_, _++_, map}
 use mathlib.Core.Path.{_≡_, refl, ap, ap₂, sym, _∙_}
 use Prim.Native.Nat.{ℕ}
 use Rattle.paper.specs.Settings.{cardSize}
+use Rattle.paper.specs.Asked.{unlent}
 use Rattle.paper.specs.Card as model
 use Rattle.paper.specs.Card.{Call, freshCard}
 use Rattle.paper.specs.Run.{Seen, seen, run, end, nameless}
@@ -41,4 +42,10 @@ card-as-the-paper =
     }
 
 pub one-answer : OneAnswer
-one-answer C c r r' l l' p q = (p .gives ∙ sym (q .gives), p .leaves ∙ sym (q .leaves))
+one-answer =
+    record {
+      by-name = λ C c r r' l l' p q. (p .gives ∙ sym (q .gives), p .leaves ∙ sym (q .leaves));
+      by-asking = λ C n a before place r r' after after' p q.
+          let same : p .lent ≡ q .lent = p .kept .leaves ∙ sym (q .kept .leaves) in
+          (p .kept .gives ∙ sym (q .kept .gives), p .at-hand ∙ ap (λ (l : List ℕ). l ++ unlent a before) same ∙ sym (q .at-hand));
+    }

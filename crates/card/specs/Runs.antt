@@ -5,10 +5,11 @@ use Prim.Native.Nat.{ℕ}
 use Rattle.paper.specs.Settings.{cardSize}
 use Rattle.paper.specs.Card.{Call, freshCard}
 use Rattle.paper.specs.Run.{Seen, seen, run, end, nameless}
+use Rattle.paper.specs.declared.Asked.{Asked}
 use Rattle.card.specs.declared.Card.{Card}
 use Rattle.card.specs.declared.Answered.{Answered}
 use Rattle.card.specs.Held.{cardOf, cardIn}
-use Rattle.card.specs.Promise.{Promise}
+use Rattle.card.specs.Promise.{Promise, Calls}
 
 -- A record that was called, what the caller saw of each call, each promise kept, and the record that was left
 pub data Called : Card → List Call → List Seen → Card → Type 0 where
@@ -25,5 +26,7 @@ pub record CardAsThePaper : Type 0 where
       → cardIn D ≡ end cardSize freshCard (nameless cs)
 
 -- "show that the promise admits one answer only"
-abbrev pub OneAnswer : Type 0
-OneAnswer = (C : Card) (c : Call) (r r' : Answered) (l l' : List ℕ) → Promise C c r l → Promise C c r' l' → (r ≡ r') × (l ≡ l')
+pub record OneAnswer : Type 0 where
+  pub by-name : (C : Card) (c : Call) (r r' : Answered) (l l' : List ℕ) → Promise C c r l → Promise C c r' l' → (r ≡ r') × (l ≡ l')
+  pub by-asking : (C : Card) (n : ℕ) (asked : Asked) (before : List ℕ) (place : ℕ) (r r' : Answered) (after after' : List ℕ)
+      → Calls C n asked before place r after → Calls C n asked before place r' after' → (r ≡ r') × (after ≡ after')

@@ -119,7 +119,13 @@ pub behind : (after before : List ℕ) → after ≡ after ++ drop (length befor
 behind after before = rw drop-all (sym (append-nil after))
 
 pub one-answer : OneAnswer
-one-answer c call r r' l l' p q = (p .gives ∙ sym (q .gives), p .leaves ∙ sym (q .leaves))
+one-answer =
+    record {
+      by-name = λ c call r r' l l' p q. (p .gives ∙ sym (q .gives), p .leaves ∙ sym (q .leaves));
+      by-asking = λ c a before place r r' after after' p q.
+          let same : p .lent ≡ q .lent = p .kept .leaves ∙ sym (q .kept .leaves) in
+          (p .kept .gives ∙ sym (q .kept .gives), p .at-hand ∙ ap (λ (l : List ℕ). l ++ unlent a before) same ∙ sym (q .at-hand));
+    }
 
 -- WHAT THE STEP IS, CASE BY CASE
 

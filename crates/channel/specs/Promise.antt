@@ -38,9 +38,11 @@ pub record Calls (c : Channel) (asked : Asked) (before : List ℕ) (place : ℕ)
   pub at-hand : after ≡ lent ++ unlent asked before
 
 -- "show that the promise admits one answer only"
-abbrev pub OneAnswer : Type 0
-OneAnswer =
-    (c : Channel) (call : ChannelCall) (r r' : Answered) (l l' : List ℕ) → Promise c call r l → Promise c call r' l' → (r ≡ r') × (l ≡ l')
+pub record OneAnswer : Type 0 where
+  pub by-name : (c : Channel) (call : ChannelCall) (r r' : Answered) (l l' : List ℕ)
+      → Promise c call r l → Promise c call r' l' → (r ≡ r') × (l ≡ l')
+  pub by-asking : (c : Channel) (asked : Asked) (before : List ℕ) (place : ℕ) (r r' : Answered) (after after' : List ℕ)
+      → Calls c asked before place r after → Calls c asked before place r' after' → (r ≡ r') × (after ≡ after')
 
 -- "waiting items reach its threshold"
 unfoldable pub atThreshold : Channel → Bool

@@ -44,7 +44,7 @@ module _ {A : Type 0} (z : Size) (one : 1 ≤ z .most) where
   fresh-channel = record { settings = fresh-settings (z .most) one; waiting = omega arith; losses = omega arith; sending = omega arith }
 
   deed-kept : (a : A) (h : Channel A) → SoundChannel z h → {c : ChannelCall} {g : Given (Channel A)} → Deed z a h c g → SoundChannel z (g .next)
-  deed-kept a h s (refusal r _) = s
+  deed-kept a h s (refusal r _ _) = s
   deed-kept a h s (arrival kind b fine) =
       let ruling = Arrival.arrival (h .settings) (h .flags) kind b .ruling in
       let p = placed-fits (z .depth) a ruling (h .queue) (record { waiting = s .waiting; losses = s .losses }) in
@@ -55,7 +55,7 @@ module _ {A : Type 0} (z : Size) (one : 1 ≤ z .most) where
       record { settings = taken-settings (z .most) l fine; waiting = s .waiting; losses = s .losses; sending = s .sending }
   deed-kept a h s renewal = fresh-channel
   deed-kept a h s showing = s
-  deed-kept a h s (sending c g d q) =
+  deed-kept a h s (sending d) =
       record { settings = s .settings; waiting = s .waiting; losses = s .losses; sending = transmit-kept d (s .sending) }
 
   pub channel-kept : (a : A) (h : Channel A) (c : ChannelCall) → SoundChannel z h → SoundChannel z (channelStep z a h c .next)

@@ -3,7 +3,7 @@ use mathlib.Core.Path.{_≡_, refl}
 use mathlib.Core.Bool.{Bool, true, false, _&&_, _||_}
 use mathlib.Core.List.{List, [], _∷_}
 use mathlib.Core.Option.{Option, none, some}
-use Prim.Native.Nat.{ℕ, zero, suc, _+_, _%_, _≤_, _<_}
+use Prim.Native.Nat.{ℕ, zero, suc, _+_, _*_, _%_, _≤_, _<_}
 use native.Mathlib.Omega.{arith}
 use native.Mathlib.Nat.{le-refl}
 use lib.Dec.{eqb, ltb}
@@ -14,7 +14,7 @@ use Rattle.paper.specs.Settings.{Size, badField}
 use Rattle.paper.specs.Arrival
 use Rattle.paper.specs.Arrival.{CR, NL}
 use Rattle.paper.specs.Transmitter.{Transmitter, TransmitCall, load, turn, setCts, askSpecial, transmitLent, loaded, sendNext, held, turned, specialTaken, transmitStep}
-use Rattle.paper.specs.Channel.{Channel, fresh, ChannelCall, arrive, read, takeSettings, reset, state, transmit, lent, noRoom, arrived, handedOver, settingsTaken, shown, channelStep}
+use Rattle.paper.specs.Channel.{Channel, fresh, withTransmitter, ChannelCall, arrive, read, takeSettings, reset, state, transmit, lent, noRoom, arrived, handedOver, settingsTaken, shown, channelStep}
 use Rattle.paper.specs.Card.{Card, on, pick, step, at, ready, firstReady, put, pickedAs, picked}
 use Rattle.paper.specs.declared.Settings.{Settings}
 use Rattle.paper.specs.declared.Flags.{Flags}
@@ -22,23 +22,14 @@ use Rattle.paper.specs.declared.Refusal.{Refusal}
 use Rattle.paper.specs.declared.Refusal.the-variants.{BadChannel, BadKind, TooMany, NoRoom, BadField, BadSpecial, SpecialWaits, BadCts}
 use Rattle.paper.specs.declared.Answer.{Answer}
 use Rattle.paper.specs.declared.Answer.the-variants.{Silent, Sent, Done, Picked, NoneReady}
-use Rattle.demands.specs.History.{isRefused, fateOf, bytesTold, arrivals}
-use Rattle.demands.proofs.Choices.{chosen, either}
+use Rattle.demands.specs.History.{nothingSaid, report, request, arrivals}
+use Rattle.demands.proofs.Choices.{chosen, chosen-or, either}
 
 -- LINE CALLS
 
--- an answer that concerns no receive queue
-pub record Quiet (a : Answer) : Type 0 where
-  pub fateless : fateOf a ≡ none
-  pub wordless : bytesTold a ≡ 0
-
-quiet : {a : Answer} → fateOf a ≡ none → bytesTold a ≡ 0 → Quiet a
-quiet p q = record { fateless = p; wordless = q }
-
 -- a line call that is served and queues no byte
 pub record Other (t : Transmitter) (c : TransmitCall) (g : Given Transmitter) : Type 0 where
-  pub calm : Quiet (g .answer)
-  pub served : isRefused (g .answer) ≡ false
+  pub calm : report (g .answer) ≡ nothingSaid
   pub short : length (g .next .bytes) ≤ length (t .bytes)
   pub same : g .lent ≡ transmitLent c
 
@@ -49,15 +40,15 @@ pub data TransmitDeed (t : Transmitter) : TransmitCall → Given Transmitter →
   other : {c : TransmitCall} {g : Given Transmitter} → Other t c g → TransmitDeed t c g
 
 module _ (s : Settings) (f : Flags) (t : Transmitter) where
-  gives : {c : TransmitCall} (a : Answer) (next : Transmitter) → Quiet a → isRefused a ≡ false → length (next .bytes) ≤ length (t .bytes)
+  gives : {c : TransmitCall} (a : Answer) (next : Transmitter) → report a ≡ nothingSaid → length (next .bytes) ≤ length (t .bytes)
       → Other t c (given a next (transmitLent c))
-  gives a next q e l = record { calm = q; served = e; short = l; same = refl }
+  gives a next e l = record { calm = e; short = l; same = refl }
 
   sent : (b : ℕ) (next : Transmitter) → length (next .bytes) ≤ length (t .bytes) → Other t turn (given (Sent b) next [])
-  sent b next l = gives (Sent b) next (quiet refl refl) refl l
+  sent b next l = gives (Sent b) next refl l
 
   silent : Other t turn (given Silent t [])
-  silent = gives Silent t (quiet refl refl) refl (omega arith)
+  silent = gives Silent t refl (omega arith)
 
   next-other : (owed : Bool) (queue : List ℕ) → length queue ≤ length (t .bytes) → Other t turn (sendNext s t owed queue)
   next-other true queue h = sent NL _ (le-refl (length (t .bytes)))
@@ -71,7 +62,7 @@ module _ (s : Settings) (f : Flags) (t : Transmitter) where
   turn-other none = either (Other t turn) (held s f t) silent (next-other (t .owed) (t .bytes) (le-refl (length (t .bytes))))
 
   settled : {c : TransmitCall} (next : Transmitter) → next .bytes ≡ t .bytes → TransmitDeed t c (given Done next (transmitLent c))
-  settled next e = other (gives Done next (quiet refl refl) refl (rw e (le-refl (length (t .bytes)))))
+  settled next e = other (gives Done next refl (rw e (le-refl (length (t .bytes)))))
 
   special-deed : (n : ℕ) (waiting : Option ℕ) → TransmitDeed t (askSpecial n) (specialTaken s t n waiting)
   special-deed n (some b) = declined SpecialWaits
@@ -84,47 +75,39 @@ module _ (s : Settings) (f : Flags) (t : Transmitter) where
   transmit-deed (setCts v) = either (TransmitDeed t (setCts v)) (ltb 1 v) (declined BadCts) (settled _ refl)
   transmit-deed (askSpecial n) = either (TransmitDeed t (askSpecial n)) (ltb n 1 || ltb 4 n) (declined BadSpecial) (special-deed n (t .special))
 
-transmit-quiet : {t : Transmitter} {c : TransmitCall} {g : Given Transmitter} → TransmitDeed t c g → Quiet (g .answer)
-unfolding loaded
-transmit-quiet (declined r) = quiet refl refl
-transmit-quiet (loading l) = quiet refl refl
-transmit-quiet (other o) = o .calm
-
 -- CALLS ON A CHANNEL
 
 pub data Deed {A : Type 0} (z : Size) (a : A) (h : Channel A) : ChannelCall → Given (Channel A) → Type 0 where
-  refusal : {c : ChannelCall} (r : Refusal) → arrivals c ≡ 0 → Deed z a h c (refused r h (lent c))
+  refusal : {c : ChannelCall} (r : Refusal) → arrivals c ≡ 0 → request h c .reset ≡ false → Deed z a h c (refused r h (lent c))
   arrival : (kind b : ℕ) → ltb 3 kind ≡ false → Deed z a h (arrive kind b) (arrived z a h (Arrival.arrival (h .settings) (h .flags) kind b))
-  reading : (n place : ℕ) (buffer : List ℕ) → noRoom n place buffer ≡ false → Deed z a h (read n place buffer) (handedOver h n place buffer)
+  reading : (n place : ℕ) (buffer : List ℕ) → place ≤ length buffer → Deed z a h (read n place buffer) (handedOver h n place buffer)
   change : (l : List ℕ) → badField (z .most) l ≡ none → Deed z a h (takeSettings l) (settingsTaken h l none)
   renewal : Deed z a h reset (given Done fresh [])
   showing : Deed z a h state (given (shown h) h [])
-  sending : (c : TransmitCall) (g : Given Transmitter) → TransmitDeed (h .transmitter) c g → Quiet (g .answer)
-      → Deed z a h (transmit c) (given (g .answer) (record { settings = h .settings; flags = h .flags; queue = h .queue; transmitter = g .next }) (g .lent))
+  sending : {c : TransmitCall} {g : Given Transmitter} → TransmitDeed (h .transmitter) c g
+      → Deed z a h (transmit c) (given (g .answer) (withTransmitter (g .next) h) (g .lent))
 
 module _ {A : Type 0} (z : Size) (a : A) (h : Channel A) where
   deed-read : (n place : ℕ) (buffer : List ℕ) → Deed z a h (read n place buffer) (channelStep z a h (read n place buffer))
-  unfolding channelStep
+  unfolding channelStep noRoom
   deed-read n place buffer =
       let P = Deed z a h (read n place buffer) in
-      either P (ltb (z .most) n) (refusal TooMany refl) (chosen P (noRoom n place buffer) (λ e. refusal NoRoom refl) (reading n place buffer))
+      either P (ltb (z .most) n) (refusal TooMany refl refl)
+      (chosen-or P (ltb (length buffer) place) (ltb (length buffer) (place + 3 * n)) (λ _. refusal NoRoom refl refl) (λ _. refusal NoRoom refl refl)
+      (λ e _. reading n place buffer (ltb-false _ _ e)))
 
   deed-settings : (l : List ℕ) (o : Option ℕ) → badField (z .most) l ≡ o → Deed z a h (takeSettings l) (settingsTaken h l o)
-  deed-settings l (some field) e = refusal (BadField field) refl
+  deed-settings l (some field) e = refusal (BadField field) refl refl
   deed-settings l none e = change l e
-
-  deed-transmit : (c : TransmitCall) → Deed z a h (transmit c) (channelStep z a h (transmit c))
-  unfolding channelStep
-  deed-transmit c = let d = transmit-deed (h .settings) (h .flags) (h .transmitter) c in sending c _ d (transmit-quiet d)
 
   pub deed : (c : ChannelCall) → Deed z a h c (channelStep z a h c)
   unfolding channelStep
-  deed (arrive kind b) = chosen (Deed z a h (arrive kind b)) (ltb 3 kind) (λ e. refusal BadKind (rw e)) (arrival kind b)
+  deed (arrive kind b) = chosen (Deed z a h (arrive kind b)) (ltb 3 kind) (λ e. refusal BadKind (rw e) refl) (arrival kind b)
   deed (read n place buffer) = deed-read n place buffer
   deed (takeSettings l) = deed-settings l (badField (z .most) l) refl
   deed reset = renewal
   deed state = showing
-  deed (transmit c) = deed-transmit c
+  deed (transmit c) = sending (transmit-deed (h .settings) (h .flags) (h .transmitter) c)
 
 -- CALLS ON A CARD
 

@@ -4,7 +4,7 @@ use Rattle.demands.proofs.Examples.{ranges, crossed, table, endings, lo
 use Rattle.demands.proofs.Reader.{reader, reader-call, clean-front}
 use Rattle.demands.proofs.ReadBack.{read-back}
 use Rattle.demands.proofs.Fifo.{first-in-first-out, loss-count}
-use Rattle.demands.proofs.Told.{told}
+use Rattle.demands.proofs.ToldCounts.{told-counts}
 use Rattle.demands.proofs.ReadingMore.{reading-more}
 use Rattle.demands.proofs.Names.{names-unseen}
 use Rattle.demands.proofs.Isolation.{isolation}
@@ -32,7 +32,7 @@ demands =
       read-back = read-back;
       first-in-first-out = first-in-first-out;
       loss-count = loss-count;
-      told = told;
+      told-counts = told-counts;
       reading-more = reading-more;
       two-hosts = two-hosts;
       names-unseen = names-unseen;

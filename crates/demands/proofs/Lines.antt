@@ -1,21 +1,18 @@
--- DEMAND 1, the program's lines: those that spell a frame of the table make its call, and every other line answers 0B alone.
-use mathlib.Core.Path.{_≡_, refl, ap, ap₂, _∙_}
+-- DEMAND 1, the program's lines: those that spell a frame make its call, and every other line answers 0B alone.
+use mathlib.Core.Path.{_≡_, refl, ap}
 use mathlib.Core.Bool.{true, false, and-false}
 use mathlib.Core.List.{List, [], _∷_}
 use mathlib.Core.Option.{Option, none, some}
-use Prim.Native.Nat.{ℕ, zero, suc, _+_, _-_, _*_, _≤_, _<_}
+use Prim.Native.Nat.{ℕ, _+_, _-_, _*_, _≤_, _<_}
 use native.Mathlib.Omega.{arith}
-use lib.Dec.{eqb, leb, ltb}
-use lib.ListN.{length, getD, drop, drop-of-length-le}
-use lib.Seq.{drop-cons}
-use borrow.Author.Tests.{eqb-true, leb-true, ltb-false, le-ltb, le-leb, lt-leb}
-use Rattle.paper.specs.Choice.{if_then_else_}
+use lib.Dec.{leb, ltb}
+use lib.ListN.{length}
+use borrow.Author.Tests.{leb-true, ltb-false, le-ltb, le-leb, lt-leb}
 use Rattle.paper.specs.Settings.{Size}
 use Rattle.paper.specs.Card.{Card, Call}
-use Rattle.paper.specs.Frames.{between, is, opens, callOf, digit, joined, bytesOf, frameCall, lineCall, replied}
+use Rattle.paper.specs.Frames.{between, callOf, digit, joined, bytesOf, frameCall, lineCall, replied}
 use Rattle.demands.specs.Text.{text}
-use Rattle.demands.specs.FrameTable.{Digit, figure, capital, small, Spells, empty, byte, Calls}
-use Rattle.demands.specs.FrameTable.{Frame, frame01, frame02, frame03, frame04, frame05, frame06, frame07, frame08, frame09, frame0A}
+use Rattle.demands.specs.Spelling.{Digit, figure, capital, small, Spells, empty, byte, Calls}
 use Rattle.demands.specs.Demands.{Lines}
 use Rattle.demands.proofs.Choices.{chosen, chosen-and}
 
@@ -83,87 +80,22 @@ spells [] = this empty
 spells (a ∷ []) = nothing
 spells (a ∷ b ∷ text) = spells-more (digit-had a) (digit-had b) (spells text)
 
--- FRAMES
-
-frame-call : (z : Size) {f : List ℕ} {c : Call} → Frame z f c → callOf z f ≡ some c
-unfolding callOf
-frame-call z (frame01 channel kind b) = refl
-frame-call z (frame02 channel n) = refl
-frame-call z (frame03 channel l) = rw (le-leb 2 (suc (suc (length l))) (omega arith))
-frame-call z (frame04 channel) = refl
-frame-call z (frame05 channel v) = refl
-frame-call z (frame06 channel s) = refl
-frame-call z (frame07 channel l) = rw (le-leb 2 (suc (suc (length l))) (omega arith))
-frame-call z frame08 = refl
-frame-call z (frame09 channel) = refl
-frame-call z (frame0A channel) = refl
-
--- a list by its first element and what stands behind it
-begins : (f : List ℕ) (first : ℕ) (rest : List ℕ) → eqb (getD f 0 0) first ≡ true → 0 < length f → drop 1 f ≡ rest → f ≡ first ∷ rest
-begins f first rest e h r = drop-cons f 0 0 h ∙ ap₂ (λ (b : ℕ) (l : List ℕ). b ∷ l) (eqb-true _ _ e) r
-
--- the elements of a list, so many from a place on
-abbrev elements : List ℕ → (place count : ℕ) → List ℕ
-elements f place zero = []
-elements f place (suc n) = getD f place 0 ∷ elements f (suc place) n
-
-all-elements : (f : List ℕ) (place count : ℕ) → length f ≡ place + count → drop place f ≡ elements f place count
-all-elements f place zero h = drop-of-length-le f {i = place} (omega arith)
-all-elements f place (suc n) h =
-    drop-cons f place 0 (omega arith) ∙ ap (λ (l : List ℕ). getD f place 0 ∷ l) (all-elements f (suc place) n (omega arith))
-
-module _ (z : Size) (f : List ℕ) where
-  -- a frame of a fixed length
-  fixed : (first more : ℕ) {c : Call} {o : Option Call} → (f ≡ first ∷ elements f 1 more → Frame z f c) → IfSome (Frame z f) o
-      → IfSome (Frame z f) (if is f first (suc more) then some c else o)
-  fixed first more frame =
-      chosen-and
-      (IfSome (Frame z f))
-      (eqb (getD f 0 0) first)
-      (eqb (length f) (suc more))
-      (λ e t. let n = eqb-true (length f) (suc more) t in this (frame (begins f first _ e (omega arith) (all-elements f 1 more (omega arith)))))
-
-  -- a frame that any bytes end
-  long : (first : ℕ) {c : Call} {o : Option Call} → (f ≡ first ∷ getD f 1 0 ∷ drop 2 f → Frame z f c) → IfSome (Frame z f) o
-      → IfSome (Frame z f) (if opens f first then some c else o)
-  long first frame =
-      chosen-and
-      (IfSome (Frame z f))
-      (eqb (getD f 0 0) first)
-      (leb 2 (length f))
-      (λ e t. let n = leb-true 2 (length f) t in this (frame (begins f first _ e (omega arith) (drop-cons f 1 0 n))))
-
-  framed : IfSome (Frame z f) (callOf z f)
-  unfolding callOf
-  framed =
-      fixed 0x01 3 (λ e. rw e (frame01 _ _ _)) (
-      fixed 0x02 2 (λ e. rw e (frame02 _ _)) (
-      long 0x03 (λ e. rw e (frame03 _ _)) (
-      fixed 0x04 1 (λ e. rw e (frame04 _)) (
-      fixed 0x05 2 (λ e. rw e (frame05 _ _)) (
-      fixed 0x06 2 (λ e. rw e (frame06 _ _)) (
-      long 0x07 (λ e. rw e (frame07 _ _)) (
-      fixed 0x08 0 (λ e. rw e frame08) (
-      fixed 0x09 1 (λ e. rw e (frame09 _)) (
-      fixed 0x0A 1 (λ e. rw e (frame0A _))
-      nothing)))))))))
-
 -- LINES
 
 calls : (z : Size) (line : List ℕ) (c : Call) → Calls z line c → lineCall z line ≡ some c
 unfolding lineCall
 calls z line c h =
     let n = spelled-length (h .spells) in
-    rw (le-ltb 68 (length line) (omega arith), spelled-bytes (h .spells)) (frame-call z (h .frame))
+    rw (le-ltb 68 (length line) (omega arith), spelled-bytes (h .spells)) (h .frame)
 
 short-calls : (z : Size) (line : List ℕ) → length line ≤ 68 → {bytes : Option (List ℕ)} → IfSome (Spells line) bytes
     → IfSome (Calls z line) (frameCall z bytes)
 short-calls z line m nothing = nothing
-short-calls z line m (this {a = f} s) = go (framed z f)
+short-calls z line m (this {a = f} s) = go (callOf z f) refl
   where
-    go : {o : Option Call} → IfSome (Frame z f) o → IfSome (Calls z line) o
-    go nothing = nothing
-    go (this frame) = let n = spelled-length s in this (record { bytes = f; spells = s; short = omega arith; frame = frame })
+    go : (o : Option Call) → callOf z f ≡ o → IfSome (Calls z line) o
+    go none e = nothing
+    go (some c) e = let n = spelled-length s in this (record { bytes = f; spells = s; short = omega arith; frame = e })
 
 line-calls : (z : Size) (line : List ℕ) → IfSome (Calls z line) (lineCall z line)
 unfolding lineCall

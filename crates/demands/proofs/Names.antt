@@ -13,16 +13,15 @@ use Rattle.paper.specs.Arrival
 use Rattle.paper.specs.Queue.{Slot, Queue, Placed, flagNewest, placeItem, place, itemsOf, overruns}
 use Rattle.paper.specs.Channel.{Channel, fresh, ChannelCall, arrive, read, takeSettings, reset, state, transmit, lent, noRoom, arrived, handedOver, settingsTaken, channelStep}
 use Rattle.paper.specs.Card.{Card, freshCard, Call, on, pick, at, ready, round, firstReady, pickedAs, picked, put, step}
-use Rattle.paper.specs.Run.{Named, run, nameless}
+use Rattle.paper.specs.Run.{Named, run, Seen, seen, nameless}
 use Rattle.paper.specs.declared.Item.{Item}
 use Rattle.paper.specs.declared.Outcome.{Outcome}
 use Rattle.paper.specs.declared.Ruling.{Ruling}
 use Rattle.paper.specs.declared.Ruling.the-variants.{Store, StoreNothing}
 use Rattle.paper.specs.declared.Fate.the-variants.{Stored, Lost}
 use Rattle.paper.specs.declared.Refusal.the-variants.{BadChannel, BadKind, TooMany, NoRoom}
-use Rattle.paper.specs.declared.Answer.{Answer}
 use Rattle.paper.specs.declared.Answer.the-variants.{Fated}
-use Rattle.demands.specs.Demands.{seen, NamesUnseen}
+use Rattle.demands.specs.Demands.{NamesUnseen}
 
 -- LISTS
 
@@ -183,8 +182,9 @@ module _ {A : Type 0} (z : Size) where
 
       go : (g′ : Given (Card Unit)) → g′ ≡ reGivenCard forget g
           → ((K : Card A) → map seen (run z K cs) ≡ map seen (run z (reCard forget K) rest))
-          → (g .answer, g .lent) ∷ map seen (run z (g .next) cs) ≡ (g′ .answer, g′ .lent) ∷ map seen (run z (g′ .next) rest)
-      go g′ e ih = rw e (ap (λ (l : List (Answer × List ℕ)). (g .answer, g .lent) ∷ l) (ih (g .next)))
+          → record { answer = g .answer; lent = g .lent } ∷ map seen (run z (g .next) cs)
+          ≡ record { answer = g′ .answer; lent = g′ .lent } ∷ map seen (run z (g′ .next) rest)
+      go g′ e ih = rw e (ap (λ (l : List Seen). record { answer = g .answer; lent = g .lent } ∷ l) (ih (g .next)))
 
 pub names-unseen : NamesUnseen
 names-unseen A z cs = nameless-run z cs freshCard

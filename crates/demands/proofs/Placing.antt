@@ -1,13 +1,13 @@
--- An arrival's ruling keeps the queue within its depth, and the loss count within 65,535.
+-- An arrival's ruling and a read keep the queue within its depth, and the loss count within 65,535.
 use mathlib.Core.Path.{_≡_, refl, ap}
 use mathlib.Core.Bool.{Bool, true, false}
 use mathlib.Core.List.{List, [], _∷_}
 use Prim.Native.Nat.{ℕ, suc, _≤_}
 use native.Mathlib.Omega.{arith}
 use lib.Dec.{ltb}
-use lib.ListN.{length, length-append}
+use lib.ListN.{length, length-append, length-drop}
 use borrow.Author.Tests.{ltb-true}
-use Rattle.paper.specs.Queue.{Slot, Queue, flagNewest, placeItem, place}
+use Rattle.paper.specs.Queue.{Slot, Queue, flagNewest, placeItem, place, removed}
 use Rattle.paper.specs.declared.Ruling.{Ruling}
 use Rattle.paper.specs.declared.Ruling.the-variants.{Store, StoreNothing}
 
@@ -28,3 +28,6 @@ module _ {A : Type 0} where
       go : (room : Bool) → ltb (length (q .slots)) depth ≡ room → Fits depth (placeItem room i a q .queue)
       go true e = record { waiting = simp length-append (omega (arith, ltb-true)); losses = b .losses }
       go false e = record { waiting = rw length-flagNewest (b .waiting); losses = omega arith }
+
+  pub removed-fits : (depth n : ℕ) (q : Queue A) → Fits depth q → Fits depth (removed n q)
+  removed-fits depth n q b = record { waiting = simp length-drop (omega (arith, b .waiting)); losses = b .losses }

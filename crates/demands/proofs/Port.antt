@@ -1,130 +1,124 @@
--- A port of the card answers as its channel alone does: the entries of a run are those of the channel's own run over the port's calls.
-use mathlib.Core.Path.{_≡_, refl, sym, ap, _∙_, subst}
+-- A port of the card answers as its channel alone does, call by call; and each call is one thing to the channel's receive queue.
+use mathlib.Core.Path.{_≡_, refl, sym, ap, _∙_}
 use mathlib.Core.Bool.{Bool, true, false}
-use mathlib.Core.List.{List, [], _∷_, _++_}
-use Prim.Native.Nat.{ℕ, zero, suc, _<_}
+use mathlib.Core.List.{List, [], _∷_}
+use Prim.Native.Nat.{ℕ, zero, suc, _≤_, _<_}
 use native.Mathlib.Omega.{arith}
-use lib.Dec.{eqb, ltb}
-use lib.ListN.{length, length-set}
-use lib.Seq.{getD-set-same}
-use borrow.Author.Tests.{eqb-true, eqb-false, eq-eqb, le-ltb}
-use Rattle.paper.specs.Choice.{if_then_else_}
+use lib.Dec.{eqb}
+use lib.ListN.{length, take, drop, length-set, getD-replicate}
+use lib.Seq.{getD-set-same, take-append-seam, drop-at, length-take-le}
+use borrow.Author.Tests.{eqb-true, eqb-false, eq-eqb}
 use Rattle.paper.specs.Given.{Given}
 use Rattle.paper.specs.Settings.{Size}
-use Rattle.paper.specs.Channel.{Channel, fresh, ChannelCall, channelStep}
-use Rattle.paper.specs.Card.{Card, freshCard, Call, on, pick, at, with, put, step}
+use Rattle.paper.specs.Queue.{Slot, oldest, removed, itemsOf}
+use Rattle.paper.specs.Stream.{images}
+use Rattle.paper.specs.Transmitter.{loaded}
+use Rattle.paper.specs.Channel.{Channel, fresh, ChannelCall, written, channelStep}
+use Rattle.paper.specs.Card.{Card, freshCard, Call, on, pick, at, with, step}
 use Rattle.paper.specs.Run.{Named, run, end}
-use Rattle.demands.specs.History.{Entry, port}
-use Rattle.demands.proofs.Cases.{by-number, by-pick}
+use Rattle.demands.specs.History.{Entry, port, queueEntry, queueHistory}
+use Rattle.demands.specs.Demands.{history, after}
+use Rattle.demands.proofs.Cases.{declined, loading, other, Deed, refusal, arrival, reading, change, renewal, showing, sending, deed, by-number, by-pick}
 use Rattle.demands.proofs.Isolation.{isolation}
+use Rattle.demands.proofs.QueueRuns.{emptyQueue, QueueStep, placed, taken, renewed, left, QueueRun, ended, met, Full}
+
+-- A CHANNEL'S OWN HISTORY, from one channel to another
+
+abbrev entryOf : {A S : Type 0} → Channel A → A → ChannelCall → Given S → Entry A
+entryOf h a c g = record { before = h; by = record { name = a; call = c }; answer = g .answer; lent = g .lent }
+
+pub data ChannelRun {A : Type 0} (z : Size) : Channel A → List (Entry A) → Channel A → Type 0 where
+  finished : {h : Channel A} → ChannelRun z h [] h
+  call : {h h′ : Channel A} {a : A} {c : ChannelCall} {g : Given (Channel A)} {es : List (Entry A)}
+      → Deed z a h c g → ChannelRun z (g .next) es h′ → ChannelRun z h (entryOf h a c g ∷ es) h′
 
 module _ {A : Type 0} where
-  -- THE CHANNEL'S OWN RUN
-
-  abbrev pub entryOf : Channel A → Named A ChannelCall → Given (Channel A) → Entry A
-  entryOf h c g = record { before = h; by = c; answer = g .answer; lent = g .lent }
-
-  abbrev pub entries : Size → Channel A → List (Named A ChannelCall) → List (Entry A)
-  entries z h [] = []
-  entries z h (c ∷ cs) =
-      entryOf h c (channelStep z (c .name) h (c .call)) ∷ entries z (channelStep z (c .name) h (c .call) .next) cs
-
-  abbrev pub leaves : Size → Channel A → List (Named A ChannelCall) → Channel A
-  leaves z h [] = h
-  leaves z h (c ∷ cs) = leaves z (channelStep z (c .name) h (c .call) .next) cs
-
-  -- the port's calls
-  abbrev pub callsAt : ℕ → A → Call → List (Named A ChannelCall)
-  callsAt n a (on m c) = if eqb m n then record { name = a; call = c } ∷ [] else []
-  callsAt n a pick = []
-
-  abbrev pub portCalls : ℕ → List (Named A Call) → List (Named A ChannelCall)
-  portCalls n [] = []
-  portCalls n (c ∷ cs) = callsAt n (c .name) (c .call) ++ portCalls n cs
-
-  -- ONE CALL OF THE CARD
-
-  pub at-here : (K : Card A) (n : ℕ) (h : Channel A) → n < length (K .channels) → at (with K n h) n ≡ h
-  at-here K n h l = getD-set-same (K .channels) n h fresh l
-
   module _ (z : Size) (a : A) (K : Card A) where
     step-length : (c : Call) → length (step z a K c .next .channels) ≡ length (K .channels)
     step-length (on n c) =
-        by-number z a K (λ (g : Given (Card A)). length (g .next .channels) ≡ length (K .channels)) n c (λ _. refl) (λ _. length-set (K .channels) n _)
-    step-length pick = by-pick z a K (λ (g : Given (Card A)). length (g .next .channels) ≡ length (K .channels)) refl (λ _ _. refl)
+        by-number z a K (λ g. length (g .next .channels) ≡ length (K .channels)) n c (λ _. refl) (λ _. length-set (K .channels) n _)
+    step-length pick = by-pick z a K (λ g. length (g .next .channels) ≡ length (K .channels)) refl (λ _ _. refl)
 
     -- a pick alters no channel
     pick-at : (n : ℕ) → at (step z a K pick .next) n ≡ at K n
-    pick-at n = by-pick z a K (λ (g : Given (Card A)). at (g .next) n ≡ at K n) refl (λ _ _. refl)
-
-    -- a call on this channel
-    here : (n : ℕ) (c : ChannelCall) → n < 4 → step z a K (on n c) ≡ put K n (channelStep z a (at K n) c)
-    unfolding step
-    here n c l = let e : ltb 3 n ≡ false = le-ltb 3 n (omega arith) in rw e
-
-  -- THE RUN
-
-  -- what a run says of a port
-  pub record Alone (z : Size) (n : ℕ) (K : Card A) (cs : List (Named A Call)) : Type 0 where
-    pub told : port n (run z K cs) ≡ entries z (at K n) (portCalls n cs)
-    pub left : at (end z K cs) n ≡ leaves z (at K n) (portCalls n cs)
+    pick-at n = by-pick z a K (λ g. at (g .next) n ≡ at K n) refl (λ _ _. refl)
 
   module _ (z : Size) (n : ℕ) (small : n < 4) where
-    abbrev Law : List (Named A Call) → Type 0
-    Law cs = (K : Card A) → length (K .channels) ≡ 4 → Alone z n K cs
+    abbrev PortRun : Card A → List (Named A Call) → Type 0
+    PortRun K cs = ChannelRun z (at K n) (port n (run z K cs)) (at (end z K cs) n)
 
-    -- the call names the port
-    law-here : (cs : List (Named A Call)) → Law cs → (a : A) (c : ChannelCall) → Law (record { name = a; call = on n c } ∷ cs)
-    law-here cs law a c K four =
-        let x = channelStep z a (at K n) c in
-        let r = law (with K n (x .next)) (length-set (K .channels) n _ ∙ four) in
-        let s = at-here K n (x .next) (omega arith) in
-        let t : eqb n n ≡ true = eq-eqb n n refl in
-        record {
-          told = rw (here z a K n c small, t) (ap (λ (l : List (Entry A)). entryOf (at K n) (record { name = a; call = c }) x ∷ l) (r .told ∙ ap (λ (h : Channel A). entries z h (portCalls n cs)) s));
-          left =
-              rw t
-              (ap (λ (g : Given (Card A)). at (end z (g .next) cs) n) (here z a K n c small)
-              ∙ r .left ∙ ap (λ (h : Channel A). leaves z h (portCalls n cs)) s);
-        }
+    -- behind one call, where law has it of the calls that follow
+    module _ (cs : List (Named A Call)) (law : (K : Card A) → length (K .channels) ≡ 4 → PortRun K cs)
+        (a : A) (K : Card A) (four : length (K .channels) ≡ 4) where
+      here : (c : ChannelCall) → PortRun K (record { name = a; call = on n c } ∷ cs)
+      here c =
+          rw (eq-eqb n n refl)
+          (by-number z a K
+          (λ (g : Given (Card A)). ChannelRun z (at K n) (entryOf (at K n) a c g ∷ port n (run z (g .next) cs)) (at (end z (g .next) cs) n))
+          n c (λ above. absurd (omega arith))
+          λ _.
+          let h = channelStep z a (at K n) c .next in
+          call (deed z a (at K n) c)
+          (rw (getD-set-same (K .channels) n h fresh (omega arith)) at (law (with K n h) (length-set (K .channels) n h ∙ four))))
 
-    law-call : (cs : List (Named A Call)) → Law cs → (a : A) (c : Call) → Law (record { name = a; call = c } ∷ cs)
-    law-call cs law a pick K four =
-        let r = law (step z a K pick .next) (step-length z a K pick ∙ four) in
-        let s = pick-at z a K n in
-        record {
-          told = r .told ∙ ap (λ (h : Channel A). entries z h (portCalls n cs)) s;
-          left = r .left ∙ ap (λ (h : Channel A). leaves z h (portCalls n cs)) s;
-        }
-    law-call cs law a (on m c) K four = go (eqb m n) refl
-      where
-        go : (t : Bool) → eqb m n ≡ t → Alone z n K (record { name = a; call = on m c } ∷ cs)
-        go true t =
-            subst (λ (k : ℕ). Alone z n K (record { name = a; call = on k c } ∷ cs)) (sym (eqb-true m n t)) (law-here cs law a c K four)
-        go false t =
-            let r = law (step z a K (on m c) .next) (step-length z a K (on m c) ∙ four) in
-            let s = isolation .others A z a K m c n (λ (e : n ≡ m). eqb-false m n t (sym e)) in
-            record {
-              told = rw t (r .told ∙ ap (λ (h : Channel A). entries z h (portCalls n cs)) s);
-              left = rw t (r .left ∙ ap (λ (h : Channel A). leaves z h (portCalls n cs)) s);
-            }
+      behind : (c : Call) → PortRun K (record { name = a; call = c } ∷ cs)
+      behind pick = rw (pick-at z a K n) at (law (step z a K pick .next) (step-length z a K pick ∙ four))
+      behind (on m c) = go (eqb m n) refl
+        where
+          go : (t : Bool) → eqb m n ≡ t → PortRun K (record { name = a; call = on m c } ∷ cs)
+          go true t = rw (eqb-true m n t) (here c)
+          go false t =
+              let e = isolation .others A z a K m c n (λ (e : n ≡ m). eqb-false m n t (sym e)) in
+              rw t (rw e at (law (step z a K (on m c) .next) (step-length z a K (on m c) ∙ four)))
 
-    pub alone : (cs : List (Named A Call)) → Law cs
-    alone [] K four = record { told = refl; left = refl }
-    alone (c ∷ cs) K four = law-call cs (alone cs) (c .name) (c .call) K four
+    port-run : (cs : List (Named A Call)) (K : Card A) → length (K .channels) ≡ 4 → PortRun K cs
+    port-run [] K four = finished
+    port-run (c ∷ cs) K four = behind cs (port-run cs) (c .name) K four (c .call)
 
-  -- FROM A FRESH START
+    pub channel-run : (cs : List (Named A Call)) → ChannelRun z fresh (history z n cs) (after z n cs)
+    channel-run cs = rw (getD-replicate 4 n (fresh {A = A}) fresh small) at (port-run cs freshCard refl)
 
-  fresh-at : (n : ℕ) → at (freshCard {A = A}) n ≡ fresh
-  fresh-at zero = refl
-  fresh-at (suc zero) = refl
-  fresh-at (suc (suc zero)) = refl
-  fresh-at (suc (suc (suc zero))) = refl
-  fresh-at (suc (suc (suc (suc n)))) = refl
+-- WHAT A CALL IS TO THE QUEUE
 
-  module _ (z : Size) (n : ℕ) (small : n < 4) (cs : List (Named A Call)) where
-    pub history-is : port n (run z freshCard cs) ≡ entries z fresh (portCalls n cs)
-    history-is = alone z n small cs freshCard refl .told ∙ ap (λ (h : Channel A). entries z h (portCalls n cs)) (fresh-at n)
+-- what a read writes is found again from its place on
+written-found : (buffer xs : List ℕ) (place : ℕ) → place ≤ length buffer → take (length xs) (drop place (written buffer place xs)) ≡ xs
+written-found buffer xs place l = rw (drop-at (take place buffer) _ place (length-take-le place buffer l)) (take-append-seam xs _)
 
-    pub after-is : at (end z freshCard cs) n ≡ leaves z fresh (portCalls n cs)
-    after-is = alone z n small cs freshCard refl .left ∙ ap (λ (h : Channel A). leaves z h (portCalls n cs)) (fresh-at n)
+module _ {X : Type 0} where
+  -- as many as were handed over are as good as what was asked for
+  take-told : (n : ℕ) (l : List X) → take (length (take n l)) l ≡ take n l
+  take-told zero l = refl
+  take-told (suc n) [] = refl
+  take-told (suc n) (x ∷ l) = ap (λ (r : List X). x ∷ r) (take-told n l)
+
+  drop-told : (n : ℕ) (l : List X) → drop (length (take n l)) l ≡ drop n l
+  drop-told zero l = refl
+  drop-told (suc n) [] = refl
+  drop-told (suc n) (x ∷ l) = drop-told n l
+
+module _ {A : Type 0} {z : Size} where
+  meets : {a : A} {h : Channel A} {c : ChannelCall} {g : Given (Channel A)}
+      → Deed z a h c g → QueueStep (z .depth) Full (h .queue) (queueEntry (entryOf h a c g)) (g .next .queue)
+  unfolding loaded
+  meets {a} (refusal _ _ e) = rw e (left a _)
+  meets {a} (arrival kind b _) = placed a _
+  meets {a} {h} (reading n place buffer inside) =
+      let q = h .queue in
+      let out = take-told n (q .slots) in
+      let rest : removed (length (oldest n q)) q ≡ removed n q = rw drop-told in
+      let images = written-found buffer (images (itemsOf (oldest n q))) place inside ∙ ap (λ (l : List (Slot A)). images (itemsOf l)) (sym out) in
+      rw (← rest) (taken a n (length (oldest n q)) _ (record { out = out; rest = rest; images = images }))
+  meets {a} (change l _) = left a _
+  meets {a} renewal = renewed a
+  meets {a} showing = left a _
+  meets {a} (sending (declined _)) = left a _
+  meets {a} (sending (loading l)) = left a _
+  meets {a} (sending (other o)) = rw (o .calm) (left a _)
+
+  queue-run : {h h′ : Channel A} {es : List (Entry A)} → ChannelRun z h es h′ → QueueRun (z .depth) Full (h .queue) (queueHistory es) (h′ .queue)
+  queue-run finished = ended
+  queue-run (call d r) = met (meets d) (queue-run r)
+
+pub port-queue : {A : Type 0} (z : Size) (n : ℕ) → n < 4 → (cs : List (Named A Call))
+    → QueueRun (z .depth) Full emptyQueue (queueHistory (history z n cs)) (after z n cs .queue)
+port-queue z n small cs = queue-run (channel-run z n small cs)

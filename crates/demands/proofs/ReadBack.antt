@@ -1,21 +1,18 @@
 -- DEMAND 2 over whole call sequences: where marking was on at every arrival, the bytes that a host finds read back as the characters handed over.
-use mathlib.Core.Path.{_≡_, refl, sym, ap, ap₂, _∙_, subst⁻¹}
-use mathlib.Core.Bool.{Bool, true, false, _&&_, _||_, true≢false}
+use mathlib.Core.Path.{_≡_, refl, sym}
+use mathlib.Core.Bool.{Bool, true, false, _&&_}
+use mathlib.Core.Logic.{_≢_}
 use mathlib.Core.List.{List, [], _∷_, _++_, append-assoc, map-append}
-use mathlib.Core.Option.{Option, none, some}
-use Prim.Native.Nat.{ℕ, zero, suc, _+_, _*_, _≤_}
+use mathlib.Core.Option.{Option, none, some, Option·some-ne-none}
+use Prim.Native.Nat.{ℕ, zero, suc}
 use lib.Dec.{eqb, ltb}
 use lib.ListN.{length, take, drop}
-use lib.Seq.{take-append-seam, drop-at, length-take-le}
-use borrow.Author.Tests.{ltb-false}
-use Rattle.paper.specs.Given.{Given}
-use Rattle.paper.specs.Settings.{Size}
 use Rattle.paper.specs.Arrival
 use Rattle.paper.specs.Arrival.{marking, goodItem, step1, step2, step4, step5, flowRuling, step6, ending, endingRuling, step7}
 use Rattle.paper.specs.Queue.{Slot, Queue, placeItem, place, flagNewest, itemsOf}
-use Rattle.paper.specs.Stream.{images, good}
-use Rattle.paper.specs.Channel.{Channel, fresh, ChannelCall, written, noRoom}
-use Rattle.paper.specs.Run.{Named, nameless}
+use Rattle.paper.specs.Stream.{images}
+use Rattle.paper.specs.Channel.{Channel, ChannelCall, arrive, read, takeSettings, reset, state, transmit}
+use Rattle.paper.specs.Run.{nameless}
 use Rattle.paper.specs.declared.Settings.{Settings}
 use Rattle.paper.specs.declared.Flags.{Flags}
 use Rattle.paper.specs.declared.Item.{Item}
@@ -24,19 +21,22 @@ use Rattle.paper.specs.declared.Why.{Why}
 use Rattle.paper.specs.declared.Ruling.{Ruling}
 use Rattle.paper.specs.declared.Ruling.the-variants.{Store, StoreNothing}
 use Rattle.paper.specs.declared.Outcome.{Outcome}
-use Rattle.demands.specs.History.{fateOf, bytesTold, placeOf, MarkingAt, Marking, handedBy, handed, bytesFound}
-use Rattle.demands.specs.Demands.{ReadBack}
+use Rattle.demands.specs.History.{request, Entry, Marking, QueueEntry, queueHistory, handed, bytesFound}
+use Rattle.demands.specs.Demands.{history, ReadBack}
 use Rattle.demands.proofs.Choices.{chosen, either}
-use Rattle.demands.proofs.Cases.{Deed, refusal, arrival, reading, change, renewal, showing, sending, deed}
-use Rattle.demands.proofs.Port.{entryOf, entries, portCalls, history-is}
 use Rattle.demands.proofs.Reader.{Markable, AllMarkable, nil, cons, items-back}
-use Rattle.demands.proofs.Fifo.{transmit-hands}
+use Rattle.demands.proofs.QueueRuns.{ReadRule, placed, taken, renewed, left, QueueRun, ended, met, Full}
+use Rattle.demands.proofs.Port.{port-queue}
 
 -- WHAT ONE ARRIVAL STORES where marking is on
 
 data Fit : Ruling → Type 0 where
   stores : {i : Item} → Markable i → Fit (Store i)
   nothing : {w : Why} → Fit (StoreNothing w)
+
+abbrev IfRuled : Option Ruling → Type 0
+IfRuled none = Unit {0}
+IfRuled (some r) = Fit r
 
 record FitOutcome (o : Outcome) : Type 0 where
   rules : Fit (o .ruling)
@@ -103,22 +103,9 @@ all-append : {l m : List Item} → AllMarkable l → AllMarkable m → AllMarkab
 all-append nil q = q
 all-append (cons x p) q = cons x (all-append p q)
 
--- BYTES IN A BUFFER
-
-found-read : (buffer xs : List ℕ) (at : ℕ) → at ≤ length buffer → take (length xs) (drop at (written buffer at xs)) ≡ xs
-found-read buffer xs at l = rw (drop-at (take at buffer) _ at (length-take-le at buffer l)) (take-append-seam xs _)
-
 images-append : (l m : List Item) → images (l ++ m) ≡ images l ++ images m
 images-append [] m = refl
 images-append (i ∷ l) m = rw (images-append l m, append-assoc)
-
-room : (n at : ℕ) (buffer : List ℕ) → noRoom n at buffer ≡ false → at ≤ length buffer
-unfolding noRoom
-room n at buffer e = go (ltb (length buffer) at) refl e
-  where
-    go : (t : Bool) → ltb (length buffer) at ≡ t → (t || ltb (length buffer) (at + 3 * n)) ≡ false → at ≤ length buffer
-    go true f e = absurd (true≢false e)
-    go false f e = ltb-false _ _ f
 
 module _ {A : Type 0} where
   abbrev Fair : List (Slot A) → Type 0
@@ -127,15 +114,10 @@ module _ {A : Type 0} where
   fair-append : (l m : List (Slot A)) → Fair l → Fair m → Fair (l ++ m)
   fair-append l m p q = rw map-append (all-append p q)
 
-  fair-take : (n : ℕ) (l : List (Slot A)) → Fair l → Fair (take n l)
-  fair-take zero l p = nil
-  fair-take (suc n) [] p = nil
-  fair-take (suc n) (x ∷ l) (cons m p) = cons m (fair-take n l p)
-
-  fair-drop : (n : ℕ) (l : List (Slot A)) → Fair l → Fair (drop n l)
-  fair-drop zero l p = p
-  fair-drop (suc n) [] p = nil
-  fair-drop (suc n) (x ∷ l) (cons m p) = fair-drop n l p
+  fair-parts : (n : ℕ) (l : List (Slot A)) → Fair l → Fair (take n l) × Fair (drop n l)
+  fair-parts zero l p = (nil, p)
+  fair-parts (suc n) [] p = (nil, nil)
+  fair-parts (suc n) (x ∷ l) (cons m p) = let parts = fair-parts n l p in (cons m (parts .0), parts .1)
 
   fair-flag : (l : List (Slot A)) → Fair l → Fair (flagNewest l)
   fair-flag [] p = nil
@@ -153,53 +135,46 @@ module _ {A : Type 0} where
   handed-images : (l m : List (Slot A)) → images (itemsOf (l ++ m)) ≡ images (itemsOf l) ++ images (itemsOf m)
   handed-images l m = rw map-append (images-append (itemsOf l) (itemsOf m))
 
-  module _ (z : Size) where
-    abbrev Hands : List (Named A ChannelCall) → Type 0
-    Hands cs = (h : Channel A) → Fair (h .queue .slots) → Marking (entries z h cs) → Fair (handed (entries z h cs))
+  -- OVER A QUEUE'S OWN HISTORY
 
-    hands-one : (cs : List (Named A ChannelCall)) → Hands cs → (a : A) (h : Channel A) {c : ChannelCall} {g : Given (Channel A)}
-        → Fair (h .queue .slots) → MarkingAt (fateOf (g .answer)) h → Marking (entries z (g .next) cs) → Deed z a h c g
-        → Fair (handedBy (entryOf h (record { name = a; call = c }) g) ++ handed (entries z (g .next) cs))
-    hands-one cs ih a h p m ms (refusal r _) = ih h p ms
-    hands-one cs ih a h p m ms (arrival kind b _) = ih _ (fair-place (z .depth) a (h .queue) (arrival-fit (h .settings) m (h .flags) kind b .rules) p) ms
-    hands-one cs ih a h p m ms (reading n at buffer _) = fair-append (take n (h .queue .slots)) _ (fair-take n _ p) (ih _ (fair-drop n _ p) ms)
-    hands-one cs ih a h p m ms (change _ _) = ih _ p ms
-    hands-one cs ih a h p m ms renewal = ih fresh nil ms
-    hands-one cs ih a h p m ms showing = ih h p ms
-    hands-one cs ih a h p m ms (sending c g d q) =
-        let h′ : Channel A = record { settings = h .settings; flags = h .flags; queue = h .queue; transmitter = g .next } in
-        subst⁻¹ (λ (out : List (Slot A)). Fair (out ++ handed (entries z h′ cs))) (transmit-hands h a c (g .answer) (g .lent)) (ih h′ p ms)
+  abbrev FitEntries : List (QueueEntry A) → Type 0
+  FitEntries [] = Unit {0}
+  FitEntries (e ∷ es) = (e .fate ≢ none → IfRuled (e .ruling)) × FitEntries es
 
-    hands : (cs : List (Named A ChannelCall)) → Hands cs
-    hands [] h p m = nil
-    hands (c ∷ cs) h p m = hands-one cs (hands cs) (c .name) h p (m .0) (m .1) (deed z (c .name) h (c .call))
+  module _ {d : ℕ} {Rule : ReadRule A} where
+    -- what is handed over reads back
+    hands : {q q′ : Queue A} {es : List (QueueEntry A)} → QueueRun d Rule q es q′ → Fair (q .slots) → FitEntries es → Fair (handed es)
+    hands ended p f = nil
+    hands {q} (met (placed a r) run) p f = hands run (fair-place d a q (f .0 (Option·some-ne-none _)) p) (f .1)
+    hands {q} (met (taken a n told bytes t) run) p f =
+        let parts = fair-parts told (q .slots) p in
+        fair-append (take told (q .slots)) _ (parts .0) (hands run (parts .1) (f .1))
+    hands (met (renewed a) run) p f = hands run nil (f .1)
+    hands (met (left a r) run) p f = hands run p (f .1)
 
-    -- THE BYTES FOUND are the images of what was handed over
+  -- the bytes found are the images of what was handed over
+  found : {d : ℕ} {q q′ : Queue A} {es : List (QueueEntry A)} → QueueRun d Full q es q′ → bytesFound es ≡ images (itemsOf (handed es))
+  found ended = refl
+  found (met (placed a r) run) = found run
+  found {q = q} (met (taken a n told bytes t) run) = rw (t .images, found run) (sym (handed-images (take told (q .slots)) _))
+  found (met (renewed a) run) = found run
+  found (met (left a r) run) = found run
 
-    abbrev Found : List (Named A ChannelCall) → Type 0
-    Found cs = (h : Channel A) → bytesFound (entries z h cs) ≡ images (itemsOf (handed (entries z h cs)))
+  -- OF A PORT
 
-    found-one : (cs : List (Named A ChannelCall)) → Found cs → (a : A) (h : Channel A) {c : ChannelCall} {g : Given (Channel A)} → Deed z a h c g
-        → take (bytesTold (g .answer)) (drop (placeOf c) (g .lent)) ++ bytesFound (entries z (g .next) cs)
-        ≡ images (itemsOf (handedBy (entryOf h (record { name = a; call = c }) g) ++ handed (entries z (g .next) cs)))
-    found-one cs ih a h (refusal r _) = ih h
-    found-one cs ih a h (arrival kind b _) = ih _
-    found-one cs ih a h (reading n at buffer e) =
-        ap₂ (λ (x y : List ℕ). x ++ y) (found-read buffer (images (itemsOf (take n (h .queue .slots)))) at (room n at buffer e)) (ih _)
-        ∙ sym (handed-images (take n (h .queue .slots)) _)
-    found-one cs ih a h (change _ _) = ih _
-    found-one cs ih a h renewal = ih fresh
-    found-one cs ih a h showing = ih h
-    found-one cs ih a h (sending c g d q) =
-        let h′ : Channel A = record { settings = h .settings; flags = h .flags; queue = h .queue; transmitter = g .next } in
-        let hands = transmit-hands h a c (g .answer) (g .lent) in
-        rw (q .wordless) (ih h′ ∙ ap (λ (out : List (Slot A)). images (itemsOf (out ++ handed (entries z h′ cs)))) (sym hands))
+  fit-request : (h : Channel A) → marking (h .settings) ≡ true → (c : ChannelCall) → IfRuled (request h c .ruling)
+  fit-request h m (arrive kind b) = arrival-fit (h .settings) m (h .flags) kind b .rules
+  fit-request h m (read n place buffer) = tt
+  fit-request h m (takeSettings l) = tt
+  fit-request h m reset = tt
+  fit-request h m state = tt
+  fit-request h m (transmit c) = tt
 
-    found : (cs : List (Named A ChannelCall)) → Found cs
-    found [] h = refl
-    found (c ∷ cs) h = found-one cs (found cs) (c .name) h (deed z (c .name) h (c .call))
+  fit-entries : (es : List (Entry A)) → Marking es → FitEntries (queueHistory es)
+  fit-entries [] m = tt
+  fit-entries (e ∷ es) m = (λ told. fit-request (e .before) (m .0 told) (e .by .call), fit-entries es (m .1))
 
 pub read-back : ReadBack
-read-back z n small cs =
-    rw (history-is z n small (nameless cs))
-    (λ m. rw (found z (portCalls n (nameless cs)) fresh) (items-back (hands z (portCalls n (nameless cs)) fresh nil m)))
+read-back z n small cs m =
+    let run = port-queue z n small (nameless cs) in
+    rw (found run) (items-back (hands run nil (fit-entries (history z n (nameless cs)) m)))

@@ -13,12 +13,12 @@ use borrow.Author.Tests.{ltb-true, ltb-false, eqb-true, eqb-false}
 use Rattle.paper.specs.Given.{Given}
 use Rattle.paper.specs.Settings.{Size, settingsOf, Test, tests, firstBad, badField}
 use Rattle.paper.specs.Transmitter.{Transmitter, TransmitCall, load, turn, setCts, askSpecial, transmitLent, loaded, specialTaken, transmitStep}
-use Rattle.paper.specs.Channel.{Channel, ChannelCall, arrive, read, takeSettings, reset, state, transmit, lent, noRoom, settingsTaken, channelStep}
+use Rattle.paper.specs.Channel.{Channel, withTransmitter, ChannelCall, arrive, read, takeSettings, reset, state, transmit, lent, noRoom, settingsTaken, channelStep}
 use Rattle.paper.specs.Card.{Card, Call, on, pick, step, at, with}
 use Rattle.paper.specs.declared.Settings.{Settings}
 use Rattle.paper.specs.declared.Flags.{Flags}
 use Rattle.paper.specs.declared.Refusal.the-variants.{SpecialWaits}
-use Rattle.demands.specs.History.{isRefused}
+use Rattle.demands.specs.History.{Report, isRefused}
 use Rattle.demands.specs.Conditions.{Condition, due, fieldCondition, transmitConditions, channelConditions, conditions, FirstDue, served, here, later}
 use Rattle.demands.specs.Demands.{lentBy, Refusals}
 use Rattle.demands.proofs.Choices.{chosen, chosen-or}
@@ -34,19 +34,19 @@ transmit-unchanged : {t : Transmitter} {c : TransmitCall} {g : Given Transmitter
 unfolding loaded
 transmit-unchanged (declined r) e = (refl, refl)
 transmit-unchanged (loading l) e = absurd (false≢true e)
-transmit-unchanged (other o) e = absurd (false≢true (sym (o .served) ∙ e))
+transmit-unchanged (other o) e = absurd (false≢true (sym (ap (λ (r : Report). r .refused) (o .calm)) ∙ e))
 
 module _ {A : Type 0} (z : Size) (a : A) where
   channel-unchanged : {h : Channel A} {c : ChannelCall} {g : Given (Channel A)} → Deed z a h c g → Unchanged h (lent c) g
-  channel-unchanged (refusal r _) e = (refl, refl)
+  channel-unchanged (refusal r _ _) e = (refl, refl)
   channel-unchanged (arrival kind b fine) e = absurd (false≢true e)
   channel-unchanged (reading n place buffer room) e = absurd (false≢true e)
   channel-unchanged (change l fine) e = absurd (false≢true e)
   channel-unchanged renewal e = absurd (false≢true e)
   channel-unchanged showing e = absurd (false≢true e)
-  channel-unchanged {h} (sending c g d q) e =
+  channel-unchanged {h} (sending d) e =
       let u = transmit-unchanged d e in
-      (ap (λ (t : Transmitter). record { settings = h .settings; flags = h .flags; queue = h .queue; transmitter = t }) (u .0), u .1)
+      (ap (λ (t : Transmitter). withTransmitter t h) (u .0), u .1)
 
   unchanged : (K : Card A) (c : Call) → Unchanged K (lentBy c) (step z a K c)
   unchanged K (on n c) =
@@ -69,7 +69,7 @@ module _ (s : Settings) (f : Flags) (t : Transmitter) where
   transmit-exact : (c : TransmitCall) → Exact (transmitConditions t c) (transmitStep s f t c)
   unfolding transmitStep loaded
   transmit-exact (load l) = served refl
-  transmit-exact turn = served (turn-other s f t (t .special) .served)
+  transmit-exact turn = served (ap (λ (r : Report). r .refused) (turn-other s f t (t .special) .calm))
   transmit-exact (setCts v) =
       chosen (Exact (transmitConditions t (setCts v))) (ltb 1 v) (λ e. here (ltb-true 1 v e)) (λ e. later (omega (arith, ltb-false)) (served refl))
   transmit-exact (askSpecial n) =

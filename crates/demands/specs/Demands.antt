@@ -10,20 +10,19 @@ use Rattle.paper.specs.Queue.{oldest, itemsOf, overruns}
 use Rattle.paper.specs.Stream.{Character, images, sort, byte, front, Decoded, decode, cleanFront}
 use Rattle.paper.specs.Channel.{Channel, ChannelCall, arrive, read, state, lent, written}
 use Rattle.paper.specs.Card.{Card, freshCard, Call, on, pick, step, at, ready}
-use Rattle.paper.specs.Run.{Named, Moment, run, end, nameless}
+use Rattle.paper.specs.Run.{Named, run, seen, end, nameless}
 use Rattle.paper.specs.Bounds.{Sound}
 use Rattle.paper.specs.Frames.{answered, reply}
 use Rattle.paper.specs.declared.Refusal.the-variants.{BrokenStream, ShortOutput}
 use Rattle.paper.specs.declared.Reading.the-variants.{Items, Unread}
 use Rattle.paper.specs.declared.Fate.the-variants.{Stored, Lost}
-use Rattle.paper.specs.declared.Answer.{Answer}
 use Rattle.paper.specs.declared.Answer.the-variants.{Handed, Shown, Picked}
 use Rattle.demands.specs.Text.{text}
 use Rattle.demands.specs.Examples.{Ranges, Crossed, Table, Endings, LossStays, ReadCases, ReaderCases, WholeCase, TransmitCase, QueueCase}
 use Rattle.demands.specs.Marks.{characterOf, stream, Accepts}
-use Rattle.demands.specs.History.{isRefused, Entry, port, sinceReset, NoReset, handed, bytesFound, Marking, stored, lost, events, between, befores, numbered, Each, NoWorse, NoPick}
+use Rattle.demands.specs.History.{isRefused, Entry, port, events, Marking, queueHistory, sinceReset, NoReset, handed, bytesFound, stored, lost, between, befores, numbered, Each, NoWorse, NoPick}
 use Rattle.demands.specs.Conditions.{conditions, FirstDue}
-use Rattle.demands.specs.FrameTable.{Calls}
+use Rattle.demands.specs.Spelling.{Calls}
 
 -- DEMAND 1: "Every call answers for every input."
 
@@ -100,24 +99,25 @@ abbrev pub ReadBack : Type 0
 ReadBack =
     (z : Size) (n : ℕ) → n < 4 → (cs : List Call)
     → let es = history z n (nameless cs) in
-    Marking es → Accepts (bytesFound es) (map characterOf (itemsOf (handed es)))
+    let qs = queueHistory es in
+    Marking es → Accepts (bytesFound qs) (map characterOf (itemsOf (handed qs)))
 
 -- first in, first out: what was handed over, and then what still waits, is what the arrivals with fate 0 stored since the last reset, in
 -- order; the overrun flag is on those behind which a loss happened while they were the newest, and on no others
 abbrev pub FirstInFirstOut : Type 1
 FirstInFirstOut =
     (A : Type 0) (z : Size) (n : ℕ) → n < 4 → (cs : List (Named A Call))
-    → let es = sinceReset (history z n cs) in
-    handed es ++ after z n cs .queue .slots ≡ stored es
+    → let qs = sinceReset (queueHistory (history z n cs)) in
+    handed qs ++ after z n cs .queue .slots ≡ stored qs
 
 -- the loss count is the number of fates 2 since the last reset, "staying at 65,535"
 abbrev pub LossCount : Type 1
 LossCount =
     (A : Type 0) (z : Size) (n : ℕ) → n < 4 → (cs : List (Named A Call))
-    → after z n cs .queue .losses ≡ min (lost (sinceReset (history z n cs))) 65535
+    → after z n cs .queue .losses ≡ min (lost (sinceReset (queueHistory (history z n cs)))) 65535
 
 -- a read tells of what it hands over and a state of what there is: no count is made up
-pub record Told : Type 1 where
+pub record ToldCounts : Type 1 where
   pub read : (A : Type 0) (z : Size) (a : A) (K : Card A) (n count place : ℕ) (buffer : List ℕ)
       → let g = step z a K (on n (read count place buffer)) in
       let out = oldest count (at K n .queue) in
@@ -138,10 +138,10 @@ ReadingMore =
     (z : Size) (n : ℕ) → n < 4 → (cs ds : List Call)
     → let first = history z n (numbered n 0 cs) in
     let second = history z n (numbered n 0 ds) in
-    NoReset first → NoReset second
+    NoReset (queueHistory first) → NoReset (queueHistory second)
     → events first ≡ events second
-    → Each _≤_ (between first) (between second)
-    → Each NoWorse (befores [] first) (befores [] second)
+    → Each _≤_ (between (queueHistory first)) (between (queueHistory second))
+    → Each NoWorse (befores [] (queueHistory first)) (befores [] (queueHistory second))
 
 -- it says something: a queue of one item loses the second arrival to a host that reads nothing, and not to one that reads between the two
 abbrev pub one : Size
@@ -149,15 +149,12 @@ one = record { depth = 1; most = 1 }
 
 abbrev pub TwoHosts : Type 0
 TwoHosts =
-    (befores [] (history one 0 (numbered 0 0 (on 0 (arrive 0 65) ∷ on 0 (arrive 0 66) ∷ [])))
+    (befores [] (queueHistory (history one 0 (numbered 0 0 (on 0 (arrive 0 65) ∷ on 0 (arrive 0 66) ∷ []))))
     ≡ record { has = []; fate = Stored } ∷ record { has = []; fate = Lost } ∷ [])
-    × (befores [] (history one 0 (numbered 0 0 (on 0 (arrive 0 65) ∷ on 0 (read 1 0 (0 ∷ 0 ∷ 0 ∷ [])) ∷ on 0 (arrive 0 66) ∷ [])))
+    × (befores [] (queueHistory (history one 0 (numbered 0 0 (on 0 (arrive 0 65) ∷ on 0 (read 1 0 (0 ∷ 0 ∷ 0 ∷ [])) ∷ on 0 (arrive 0 66) ∷ []))))
     ≡ record { has = []; fate = Stored } ∷ record { has = 0 ∷ []; fate = Stored } ∷ [])
 
 -- names, and so the numbering, change no answer and no lent byte: nothing that a caller sees
-abbrev pub seen : {A : Type 0} → Moment A → Answer × List ℕ
-seen m = (m .gave .answer, m .gave .lent)
-
 abbrev pub NamesUnseen : Type 1
 NamesUnseen =
     (A : Type 0) (z : Size) (cs : List (Named A Call))
@@ -209,7 +206,7 @@ pub record Demands : Type 1 where
   pub read-back : ReadBack
   pub first-in-first-out : FirstInFirstOut
   pub loss-count : LossCount
-  pub told : Told
+  pub told-counts : ToldCounts
   pub reading-more : ReadingMore
   pub two-hosts : TwoHosts
   pub names-unseen : NamesUnseen

@@ -1,7 +1,8 @@
--- The words of the demands, read off a run: what one port was asked, and what it answered.
+-- The words of the demands, read off a run: what one port was asked and answered, and what that was to its receive queue.
 use mathlib.Core.Path.{_≡_}
 use mathlib.Core.Bool.{Bool, true, false}
-use mathlib.Core.List.{List, [], _∷_, _++_}
+use mathlib.Core.Logic.{_≢_}
+use mathlib.Core.List.{List, [], _∷_, _++_, map}
 use mathlib.Core.Option.{Option, none, some}
 use Prim.Native.Nat.{ℕ, _+_}
 use lib.Dec.{eqb, ltb}
@@ -12,7 +13,6 @@ use Rattle.paper.specs.Queue.{Slot, oldest, namesOf}
 use Rattle.paper.specs.Channel.{Channel, ChannelCall, arrive, read, takeSettings, reset, state, transmit}
 use Rattle.paper.specs.Card.{Call, on, pick, at}
 use Rattle.paper.specs.Run.{Named, Moment}
-use Rattle.paper.specs.declared.Item.{Item}
 use Rattle.paper.specs.declared.Ruling.{Ruling}
 use Rattle.paper.specs.declared.Ruling.the-variants.{Store, StoreNothing}
 use Rattle.paper.specs.declared.Fate.{Fate}
@@ -20,94 +20,51 @@ use Rattle.paper.specs.declared.Fate.the-variants.{Stored, Nothing, Lost}
 use Rattle.paper.specs.declared.Answer.{Answer}
 use Rattle.paper.specs.declared.Answer.the-variants as answers
 
--- WHAT AN ANSWER SAYS
+-- WHAT AN ANSWER SAYS: that the call was refused; an arrival's fate; how many characters a read handed over, and in how many bytes
+pub record Report : Type 0 where
+  pub refused : Bool
+  pub fate : Option Fate
+  pub characters : ℕ
+  pub bytes : ℕ
+
+-- none of these
+abbrev pub nothingSaid : Report
+nothingSaid = record { refused = false; fate = none; characters = 0; bytes = 0 }
+
+abbrev pub report : Answer → Report
+report (answers.Refused r) = record { refused = true; fate = none; characters = 0; bytes = 0 }
+report (answers.Fated f) = record { refused = false; fate = some f; characters = 0; bytes = 0 }
+report (answers.Handed characters flagged bytes) = record { refused = false; fate = none; characters = characters; bytes = bytes }
+report (answers.Took n) = nothingSaid
+report answers.Silent = nothingSaid
+report (answers.Sent b) = nothingSaid
+report answers.Done = nothingSaid
+report (answers.Shown waiting sending stopped losses) = nothingSaid
+report (answers.Picked n) = nothingSaid
+report answers.NoneReady = nothingSaid
 
 abbrev pub isRefused : Answer → Bool
-isRefused (answers.Refused r) = true
-isRefused (answers.Fated f) = false
-isRefused (answers.Handed c f b) = false
-isRefused (answers.Took n) = false
-isRefused answers.Silent = false
-isRefused (answers.Sent b) = false
-isRefused answers.Done = false
-isRefused (answers.Shown w t s l) = false
-isRefused (answers.Picked n) = false
-isRefused answers.NoneReady = false
+isRefused a = report a .refused
 
-abbrev pub fateOf : Answer → Option Fate
-fateOf (answers.Refused r) = none
-fateOf (answers.Fated f) = some f
-fateOf (answers.Handed c f b) = none
-fateOf (answers.Took n) = none
-fateOf answers.Silent = none
-fateOf (answers.Sent b) = none
-fateOf answers.Done = none
-fateOf (answers.Shown w t s l) = none
-fateOf (answers.Picked n) = none
-fateOf answers.NoneReady = none
+-- WHAT A CALL ASKS of a receive queue: to place what the seven steps rule; to hand over so many characters, from a place of the lent buffer on; to be
+-- fresh again
+pub record Request : Type 0 where
+  pub ruling : Option Ruling
+  pub characters : ℕ
+  pub place : ℕ
+  pub reset : Bool
 
--- how many bytes a read says that it wrote
-abbrev pub bytesTold : Answer → ℕ
-bytesTold (answers.Refused r) = 0
-bytesTold (answers.Fated f) = 0
-bytesTold (answers.Handed c f b) = b
-bytesTold (answers.Took n) = 0
-bytesTold answers.Silent = 0
-bytesTold (answers.Sent b) = 0
-bytesTold answers.Done = 0
-bytesTold (answers.Shown w t s l) = 0
-bytesTold (answers.Picked n) = 0
-bytesTold answers.NoneReady = 0
+-- none of these
+abbrev pub nothingAsked : Request
+nothingAsked = record { ruling = none; characters = 0; place = 0; reset = false }
 
--- WHAT A CALL ASKS
-
-abbrev pub isReset : ChannelCall → Bool
-isReset (arrive k b) = false
-isReset (read n place buffer) = false
-isReset (takeSettings l) = false
-isReset reset = true
-isReset state = false
-isReset (transmit c) = false
-
--- how many characters
-abbrev pub asked : ChannelCall → ℕ
-asked (arrive k b) = 0
-asked (read n place buffer) = n
-asked (takeSettings l) = 0
-asked reset = 0
-asked state = 0
-asked (transmit c) = 0
-
--- from which place of the lent buffer on
-abbrev pub placeOf : ChannelCall → ℕ
-placeOf (arrive k b) = 0
-placeOf (read n place buffer) = place
-placeOf (takeSettings l) = 0
-placeOf reset = 0
-placeOf state = 0
-placeOf (transmit c) = 0
-
--- an arrival or a setting change; a break's byte "is disregarded"
-pub data Event : Type 0 where
-  arrived : (kind byte : ℕ) → Event
-  changed : List ℕ → Event
-
-abbrev pub eventsOf : ChannelCall → List Event
-eventsOf (arrive k b) = arrived k (if eqb k 3 then 0 else b) ∷ []
-eventsOf (read n place buffer) = []
-eventsOf (takeSettings l) = changed l ∷ []
-eventsOf reset = []
-eventsOf state = []
-eventsOf (transmit c) = []
-
--- 1 for an arrival; one of a bad kind is refused, and is none
-abbrev pub arrivals : ChannelCall → ℕ
-arrivals (arrive kind b) = if ltb 3 kind then 0 else 1
-arrivals (read n place buffer) = 0
-arrivals (takeSettings l) = 0
-arrivals reset = 0
-arrivals state = 0
-arrivals (transmit c) = 0
+abbrev pub request : {A : Type 0} → Channel A → ChannelCall → Request
+request h (arrive kind b) = record { ruling = some (arrival (h .settings) (h .flags) kind b .ruling); characters = 0; place = 0; reset = false }
+request h (read n place buffer) = record { ruling = none; characters = n; place = place; reset = false }
+request h (takeSettings l) = nothingAsked
+request h reset = record { ruling = none; characters = 0; place = 0; reset = true }
+request h state = nothingAsked
+request h (transmit c) = nothingAsked
 
 -- ONE PORT
 
@@ -131,98 +88,127 @@ module _ {A : Type 0} where
   port n [] = []
   port n (m ∷ ms) = onPort n m (m .by .call) ++ port n ms
 
-  -- from the last reset on, if there was one: kept are the entries behind the last one that was found
-  abbrev pub behindReset : (kept : List (Entry A)) → List (Entry A) → List (Entry A)
-  behindReset kept [] = kept
-  behindReset kept (e ∷ es) = if isReset (e .by .call) then behindReset es es else behindReset kept es
+  -- marking was on at every arrival
+  abbrev pub Marking : List (Entry A) → Type 0
+  Marking [] = Unit {0}
+  Marking (e ∷ es) = (report (e .answer) .fate ≢ none → marking (e .before .settings) ≡ true) × Marking es
 
-  abbrev pub sinceReset : List (Entry A) → List (Entry A)
+-- ITS RECEIVE QUEUE
+
+-- What one call on the port was to the queue
+pub record QueueEntry (A : Type 0) : Type 0 where
+  -- of an arrival: the name of what it may store, what the seven steps rule, and the fate that was told
+  pub name : A
+  pub ruling : Option Ruling
+  pub fate : Option Fate
+  -- of a read: how many characters were asked for, what was handed over, and the bytes that the host finds in its buffer
+  pub asked : ℕ
+  pub handed : List (Slot A)
+  pub bytes : List ℕ
+  -- whether it was a reset
+  pub reset : Bool
+
+module _ {A : Type 0} where
+  abbrev pub queueEntry : Entry A → QueueEntry A
+  queueEntry e =
+      let asks = request (e .before) (e .by .call) in
+      let says = report (e .answer) in
+      record {
+        name = e .by .name;
+        ruling = asks .ruling;
+        fate = says .fate;
+        -- "a refused read asks for nothing"
+        asked = if says .refused then 0 else asks .characters;
+        -- the oldest that waited, as many as the answer says
+        handed = oldest (says .characters) (e .before .queue);
+        -- from the place on, as many as the answer says
+        bytes = take (says .bytes) (drop (asks .place) (e .lent));
+        reset = asks .reset;
+      }
+
+  -- the queue's own history
+  abbrev pub queueHistory : List (Entry A) → List (QueueEntry A)
+  queueHistory es = map queueEntry es
+
+  -- from the last reset on, if there was one: kept are the entries behind the last one that was found
+  abbrev pub behindReset : (kept : List (QueueEntry A)) → List (QueueEntry A) → List (QueueEntry A)
+  behindReset kept [] = kept
+  behindReset kept (e ∷ es) = if e .reset then behindReset es es else behindReset kept es
+
+  abbrev pub sinceReset : List (QueueEntry A) → List (QueueEntry A)
   sinceReset es = behindReset es es
 
   -- no resets
-  abbrev pub NoReset : List (Entry A) → Type 0
+  abbrev pub NoReset : List (QueueEntry A) → Type 0
   NoReset [] = Unit {0}
-  NoReset (e ∷ es) = (isReset (e .by .call) ≡ false) × NoReset es
+  NoReset (e ∷ es) = (e .reset ≡ false) × NoReset es
 
-  -- READS
-
-  -- "a refused read asks for nothing"
-  abbrev pub asks : Entry A → ℕ
-  asks e = if isRefused (e .answer) then 0 else asked (e .by .call)
-
-  -- what was handed over: the oldest that waited, as many as were asked for
-  abbrev pub handedBy : Entry A → List (Slot A)
-  handedBy e = oldest (asks e) (e .before .queue)
-
-  abbrev pub handed : List (Entry A) → List (Slot A)
+  -- what was handed over
+  abbrev pub handed : List (QueueEntry A) → List (Slot A)
   handed [] = []
-  handed (e ∷ es) = handedBy e ++ handed es
+  handed (e ∷ es) = e .handed ++ handed es
 
-  -- the bytes that the host finds in its buffers: from the place on, as many as it was told
-  abbrev pub bytesFound : List (Entry A) → List ℕ
+  -- the bytes that the host finds in its buffers
+  abbrev pub bytesFound : List (QueueEntry A) → List ℕ
   bytesFound [] = []
-  bytesFound (e ∷ es) = take (bytesTold (e .answer)) (drop (placeOf (e .by .call)) (e .lent)) ++ bytesFound es
+  bytesFound (e ∷ es) = e .bytes ++ bytesFound es
 
--- ARRIVALS
-
-abbrev pub itemOf : Ruling → Option Item
-itemOf (Store i) = some i
-itemOf (StoreNothing w) = none
-
-abbrev pub lossNow : Option Fate → Bool → Bool
+abbrev pub lossNow : Option Fate → (later : Bool) → Bool
 lossNow none later = later
 lossNow (some Stored) later = false
-lossNow (some (Nothing w)) later = later
+lossNow (some (Nothing why)) later = later
 lossNow (some Lost) later = true
 
 abbrev pub lostOne : Option Fate → ℕ
 lostOne none = 0
 lostOne (some Stored) = 0
-lostOne (some (Nothing w)) = 0
+lostOne (some (Nothing why)) = 0
 lostOne (some Lost) = 1
 
 module _ {A : Type 0} where
-  -- marking was on at every arrival
-  abbrev pub MarkingAt : Option Fate → Channel A → Type 0
-  MarkingAt none h = Unit {0}
-  MarkingAt (some f) h = marking (h .settings) ≡ true
-
-  abbrev pub Marking : List (Entry A) → Type 0
-  Marking [] = Unit {0}
-  Marking (e ∷ es) = MarkingAt (fateOf (e .answer)) (e .before) × Marking es
-
-  -- the item that the seven steps give an arrival
-  abbrev pub arrivalItem : Channel A → ChannelCall → Option Item
-  arrivalItem h (arrive k b) = itemOf (arrival (h .settings) (h .flags) k b .ruling)
-  arrivalItem h (read n place buffer) = none
-  arrivalItem h (takeSettings l) = none
-  arrivalItem h reset = none
-  arrivalItem h state = none
-  arrivalItem h (transmit c) = none
-
   -- a loss comes before anything more is stored
-  abbrev pub lossNext : List (Entry A) → Bool
+  abbrev pub lossNext : List (QueueEntry A) → Bool
   lossNext [] = false
-  lossNext (e ∷ es) = lossNow (fateOf (e .answer)) (lossNext es)
+  lossNext (e ∷ es) = lossNow (e .fate) (lossNext es)
 
   -- what the arrivals with fate 0 stored, in order, each flagged if a loss happened while it was the newest
-  abbrev pub storedAs : A → Option Fate → Option Item → (over : Bool) → List (Slot A)
-  storedAs a none i over = []
+  abbrev pub storedAs : A → Option Fate → Option Ruling → (over : Bool) → List (Slot A)
+  storedAs a none r over = []
   storedAs a (some Stored) none over = []
-  storedAs a (some Stored) (some i) over = record { item = i; over = over; name = a } ∷ []
-  storedAs a (some (Nothing w)) i over = []
-  storedAs a (some Lost) i over = []
+  storedAs a (some Stored) (some (Store i)) over = record { item = i; over = over; name = a } ∷ []
+  storedAs a (some Stored) (some (StoreNothing why)) over = []
+  storedAs a (some (Nothing why)) r over = []
+  storedAs a (some Lost) r over = []
 
-  abbrev pub stored : List (Entry A) → List (Slot A)
+  abbrev pub stored : List (QueueEntry A) → List (Slot A)
   stored [] = []
-  stored (e ∷ es) = storedAs (e .by .name) (fateOf (e .answer)) (arrivalItem (e .before) (e .by .call)) (lossNext es) ++ stored es
+  stored (e ∷ es) = storedAs (e .name) (e .fate) (e .ruling) (lossNext es) ++ stored es
 
   -- how many arrivals had fate 2
-  abbrev pub lost : List (Entry A) → ℕ
+  abbrev pub lost : List (QueueEntry A) → ℕ
   lost [] = 0
-  lost (e ∷ es) = lostOne (fateOf (e .answer)) + lost es
+  lost (e ∷ es) = lostOne (e .fate) + lost es
 
 -- TWO HOSTS
+
+-- an arrival or a setting change; a break's byte "is disregarded"
+pub data Event : Type 0 where
+  arrived : (kind byte : ℕ) → Event
+  changed : List ℕ → Event
+
+abbrev pub eventsOf : ChannelCall → List Event
+eventsOf (arrive k b) = arrived k (if eqb k 3 then 0 else b) ∷ []
+eventsOf (read n place buffer) = []
+eventsOf (takeSettings l) = changed l ∷ []
+eventsOf reset = []
+eventsOf state = []
+eventsOf (transmit c) = []
+
+module _ {A : Type 0} where
+  -- the arrivals and setting changes, in order; "A refusal changes nothing"
+  abbrev pub events : List (Entry A) → List Event
+  events [] = []
+  events (e ∷ es) = (if isRefused (e .answer) then [] else eventsOf (e .by .call)) ++ events es
 
 abbrev pub countAt : Option Fate → ℕ → (later : List ℕ) → (again : List ℕ) → List ℕ
 countAt none n later again = later
@@ -233,18 +219,13 @@ tail [] = []
 tail (n ∷ ns) = ns
 
 module _ {A : Type 0} where
-  -- the arrivals and setting changes, in order; "A refusal changes nothing"
-  abbrev pub events : List (Entry A) → List Event
-  events [] = []
-  events (e ∷ es) = (if isRefused (e .answer) then [] else eventsOf (e .by .call)) ++ events es
-
   -- how many characters are asked for before each arrival and behind the one before it; n: so far
-  abbrev pub counts : ℕ → List (Entry A) → List ℕ
+  abbrev pub counts : ℕ → List (QueueEntry A) → List ℕ
   counts n [] = []
-  counts n (e ∷ es) = countAt (fateOf (e .answer)) n (counts (n + asks e) es) (counts 0 es)
+  counts n (e ∷ es) = countAt (e .fate) n (counts (n + e .asked) es) (counts 0 es)
 
   -- "between each two arrivals": the first count stands before the first arrival, and is between no two
-  abbrev pub between : List (Entry A) → List ℕ
+  abbrev pub between : List (QueueEntry A) → List ℕ
   between es = tail (counts 0 es)
 
 -- Just before an arrival: what has been handed over, by name; and the arrival's fate
@@ -258,11 +239,20 @@ module _ {A : Type 0} where
   beforeAt (some f) has later = record { has = has; fate = f } ∷ later
 
   -- has: handed over so far
-  abbrev pub befores : (has : List A) → List (Entry A) → List (Before A)
+  abbrev pub befores : (has : List A) → List (QueueEntry A) → List (Before A)
   befores has [] = []
-  befores has (e ∷ es) = beforeAt (fateOf (e .answer)) has (befores (has ++ namesOf (handedBy e)) es)
+  befores has (e ∷ es) = beforeAt (e .fate) has (befores (has ++ namesOf (e .handed)) es)
 
--- NUMBERS: each call of a list, with the number of arrivals on port n before it; k: so far
+-- 1 for an arrival; one of a bad kind is refused, and is none
+abbrev pub arrivals : ChannelCall → ℕ
+arrivals (arrive kind b) = if ltb 3 kind then 0 else 1
+arrivals (read n place buffer) = 0
+arrivals (takeSettings l) = 0
+arrivals reset = 0
+arrivals state = 0
+arrivals (transmit c) = 0
+
+-- each call of a list, with the number of arrivals on port n before it; k: so far
 abbrev pub arrivalsOn : ℕ → Call → ℕ
 arrivalsOn n (on m c) = if eqb m n then arrivals c else 0
 arrivalsOn n pick = 0

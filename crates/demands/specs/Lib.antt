@@ -2,6 +2,6 @@ pub mod Text
 pub mod Marks
 pub mod History
 pub mod Conditions
-pub mod FrameTable
+pub mod Spelling
 pub mod Examples
 pub mod Demands

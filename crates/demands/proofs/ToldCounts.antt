@@ -9,7 +9,7 @@ use Rattle.paper.specs.Settings.{Size}
 use Rattle.paper.specs.Channel.{read, state, noRoom, handedOver, shown, channelStep}
 use Rattle.paper.specs.Card.{Card, on, step, at}
 use Rattle.demands.specs.History.{isRefused}
-use Rattle.demands.specs.Demands.{Told}
+use Rattle.demands.specs.Demands.{ToldCounts}
 use Rattle.demands.proofs.Choices.{chosen}
 use Rattle.demands.proofs.Cases.{by-number}
 
@@ -30,5 +30,5 @@ module _ {A : Type 0} (z : Size) (a : A) (K : Card A) (n : ℕ) where
   unfolding channelStep
   state-tells = by-number z a K (Tells (given (shown (at K n)) K [])) n state (λ above e. absurd (true≢false e)) (λ small e. (refl, refl))
 
-pub told : Told
-told = record { read = λ A z a K n. read-tells z a K n; state = λ A z a K n e. state-tells z a K n e .0 }
+pub told-counts : ToldCounts
+told-counts = record { read = λ A z a K n. read-tells z a K n; state = λ A z a K n e. state-tells z a K n e .0 }
