@@ -3,7 +3,7 @@ use mathlib.Core.Bool.{Bool, true, false, _&&_, _||_}
 use mathlib.Core.List.{List, [], _∷_}
 use mathlib.Core.Option.{Option, none, some}
 use mathlib.Core.Path.{_≡_, refl}
-use Prim.Native.Nat.{ℕ, _*_, _≤_}
+use Prim.Native.Nat.{ℕ, _*_, _≤_, _<_}
 use native.Mathlib.Omega.{arith}
 use lib.Dec.{eqb, ltb}
 use lib.ListN.{length, length-append, length-take, length-map}
@@ -11,15 +11,14 @@ use borrow.Author.Tests.{ltb-false}
 use denote.Enum.Declared.{tagOf}
 use types.Run.{OneOf, miss}
 use Rattle.paper.specs.Given.{Given}
-use Rattle.paper.specs.Settings.{cardSize, badField}
+use Rattle.paper.specs.Settings.{Size, cardSize, badField}
 use Rattle.paper.specs.Arrival.{NL}
 use Rattle.paper.specs.Queue.{Slot, oldest, itemsOf, overruns}
 use Rattle.paper.specs.Stream.{images}
 use Rattle.paper.specs.Transmitter.{Transmitter, transmitDepth, TransmitCall, load, turn, setCts, askSpecial}
 use Rattle.paper.specs.Transmitter.{loaded, sendNext, held, turned, specialTaken, transmitStep}
 use Rattle.paper.specs.Channel.{Channel, ChannelCall, arrive, read, takeSettings, reset, state, transmit, noRoom, handedOver, settingsTaken, channelStep}
-use Rattle.paper.specs.Card.{Card, Call, on, pick, at, step}
-use Rattle.paper.specs.Bounds.{SoundChannel, Sound}
+use Rattle.paper.specs.Bounds.{SoundChannel}
 use Rattle.paper.specs.Numbers.{numbers}
 use Rattle.paper.specs.Frames.{lentBytes}
 use Rattle.paper.specs.declared.Settings.{Settings}
@@ -30,7 +29,6 @@ use Rattle.paper.specs.declared.Answer.{Answer}
 use Rattle.paper.specs.declared.Answer.the-variants.{Refused, Fated, Handed, Took, Silent, Sent, Done, Shown, Picked, NoneReady}
 use Rattle.paper.proofs.Answer as answers
 use Rattle.demands.proofs.Choices.{chosen, either}
-use Rattle.demands.proofs.Cases.{by-number, by-pick}
 use Rattle.answers.specs.AnswerLine.{secondNumber, Small}
 
 -- WHICH ANSWER IT IS. A match that comes to its last arm has told the variant, counted from 0, to be one of those that no other arm names.
@@ -137,11 +135,11 @@ settings-fit : (h : Channel Unit) (l : List ℕ) (bad : Option ℕ) → Fits (se
 settings-fit h l (some field) = tt
 settings-fit h l none = tt
 
-handed-fits : (h : Channel Unit) (n place : ℕ) (buffer : List ℕ) → n ≤ 12 → Fits (handedOver h n place buffer)
+handed-fits : (h : Channel Unit) (n place : ℕ) (buffer : List ℕ) → n ≤ cardSize .most → Fits (handedOver h n place buffer)
 handed-fits h n place buffer few =
     let out = oldest n (h .queue) in
     let bytes = images (itemsOf out) in
-    let taken : length out ≤ 12 = simp length-take (omega arith) in
+    let taken : length out ≤ cardSize .most = simp length-take (omega arith) in
     let short : length bytes ≤ lentBytes cardSize = omega (arith, images-short (itemsOf out), length-map out (λ (x : Slot Unit). x .item)) in
     record {
       removed = omega arith;
@@ -150,17 +148,16 @@ handed-fits h n place buffer few =
       inside = simp length-append (omega arith);
     }
 
-pub small : (h : Channel Unit) → SoundChannel cardSize h → (call : ChannelCall)
-    → Small (channelStep cardSize tt h call .answer) (channelStep cardSize tt h call .lent)
-unfolding channelStep transmitDepth
-small h s (arrive kind b) = either Fits (ltb 3 kind) tt tt
-small h s (read n place buffer) =
-    chosen Fits (ltb 12 n) (λ many. tt) (λ few. either Fits (noRoom n place buffer) tt (handed-fits h n place buffer (ltb-false 12 n few)))
-small h s (takeSettings l) = settings-fit h l (badField (cardSize .most) l)
-small h s reset = tt
-small h s state = (omega (arith, s .waiting), omega (arith, s .sending))
-small h s (transmit c) = transmit-fits (h .settings) (h .flags) (h .transmitter) c
-
-pub small-card : (K : Card Unit) → Sound cardSize K → (call : Call) → Small (step cardSize tt K call .answer) (step cardSize tt K call .lent)
-small-card K s (on n call) = by-number cardSize tt K Fits n call (λ above. tt) (λ few. small (at K n) (s .each n (omega arith)) call)
-small-card K s pick = by-pick cardSize tt K Fits tt (λ n few. tt)
+-- the answers of a card of any size that the longest line is long enough for
+module _ (z : Size) (short : z .most ≤ cardSize .most) (shallow : z .depth < 256) where
+  pub small : (h : Channel Unit) → SoundChannel z h → (call : ChannelCall) → Small (channelStep z tt h call .answer) (channelStep z tt h call .lent)
+  unfolding channelStep transmitDepth
+  small h s (arrive kind b) = either Fits (ltb 3 kind) tt tt
+  small h s (read n place buffer) =
+      chosen Fits (ltb (z .most) n) (λ many. tt) (λ few.
+      let most = ltb-false (z .most) n few in
+      either Fits (noRoom n place buffer) tt (handed-fits h n place buffer (omega arith)))
+  small h s (takeSettings l) = settings-fit h l (badField (z .most) l)
+  small h s reset = tt
+  small h s state = (omega (arith, s .waiting), omega (arith, s .sending))
+  small h s (transmit c) = transmit-fits (h .settings) (h .flags) (h .transmitter) c

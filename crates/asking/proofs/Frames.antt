@@ -1,8 +1,8 @@
 -- The code's table of frames is the paper's.
 use mathlib.Core.Bool.{Bool, true, false}
 use mathlib.Core.List.{List, [], _∷_}
-use mathlib.Core.Option.{Option, none, some}
-use mathlib.Core.Path.{_≡_, refl, sym, ap, _∙_}
+use mathlib.Core.Option.{none, some}
+use mathlib.Core.Path.{_≡_, refl, _∙_}
 use Prim.Native.Nat.{ℕ, zero, suc, _≤_, _<_}
 use native.Mathlib.Omega.{arith}
 use lib.Dec.{eqb, leb, ltb}
@@ -10,12 +10,11 @@ use lib.ListN.{length, getD, take, length-take}
 use borrow.Author.Tests.{eqb-true, leb-true, ltb-true, ltb-false, ne-eqb}
 use Rattle.paper.specs.Choice.{if_then_else_}
 use Rattle.paper.specs.Settings.{Size}
-use Rattle.paper.specs.Card.{Call, on, pick}
+use Rattle.paper.specs.Card.{on, pick}
 use Rattle.paper.specs.Frames.{callOf}
 use Rattle.paper.specs.declared.Asked.{Asked}
 use Rattle.paper.specs.declared.Asked.the-variants as asked
 use Rattle.asking.specs.declared.Found.{Found}
-use Rattle.asking.specs.declared.Found.the-variants.{NoFrame}
 use Rattle.asking.specs.Frame.{callIn, Means, rowFound, pickFound}
 
 in-front : (f : List ℕ) (n k : ℕ) → k < n → getD (take n f) k 0 ≡ getD f k 0

@@ -1,8 +1,8 @@
 -- Reading on to a line's end.
 use mathlib.Core.Bool.{Bool, true, false}
-use mathlib.Core.List.{List, [], _∷_, _++_}
-use mathlib.Core.Option.{Option, none}
-use mathlib.Core.Path.{_≡_, refl, sym, ap, _∙_}
+use mathlib.Core.List.{List, _∷_, _++_}
+use mathlib.Core.Option.{none}
+use mathlib.Core.Path.{_≡_, refl, ap, _∙_}
 use Prim.Native.Nat.{ℕ, _/_, _%_, _≤_}
 use native.Mathlib.Omega.{arith}
 use lib.Dec.{eqb}
@@ -16,7 +16,6 @@ use Rattle.hexadecimal.specs.declared.LineSoFar.{LineSoFar}
 use Rattle.hexadecimal.specs.declared.Cut.{Cut}
 use Rattle.hexadecimal.specs.LineSoFar.{held, Fits, left, Gathers}
 use Rattle.hexadecimal.proofs.Laws.{left-start, ended-call}
-use Rattle.asking.specs.declared.Next.{Next}
 use Rattle.asking.specs.declared.Found.{Found}
 use Rattle.asking.specs.declared.Found.the-variants.{NoLine}
 use Rattle.asking.specs.Frame.{Means, bytesIn}

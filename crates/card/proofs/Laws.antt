@@ -2,12 +2,11 @@
 use mathlib.Core.Bool.{Bool, true, false}
 use mathlib.Core.List.{List, [], _∷_, map}
 use mathlib.Core.Option.{Option, none, some}
-use mathlib.Core.Path.{_≡_, refl, ap, ap₂, sym, subst, _∙_}
+use mathlib.Core.Path.{_≡_, refl, ap, ap₂, sym, _∙_}
 use Prim.Native.Nat.{ℕ, zero, suc, _+_, _%_, _≤_, _<_}
 use native.Mathlib.Omega.{arith}
 use lib.Dec.{leb, lit≤}
 use lib.ListN.{length, getD, set, length-map, List·getD-map}
-use lib.Seq.{set-getD}
 use borrow.Author.Tests.{lt-ltb, le-ltb}
 use Rattle.paper.specs.Choice.{if_then_else_}
 use Rattle.paper.specs.Settings.{Size}
@@ -169,15 +168,6 @@ module _ (C : Card) (s : Sound C) where
   named : (n : ℕ) → n ≡ nextReady C → Named (firstReady (cardIn C) (round (C .place))) n
   unfolding nextReady
   named n e = rw e (named-ahead (cardIn C) (C .place) 0 4)
-
-  -- and the record with its new place is sound
-  pub placed-sound : (n : ℕ) → n < 4 → Sound (record { channels = C .channels; place = n })
-  unfolding cardIn cardOf
-  placed-sound n small =
-      record {
-        is = ap (λ (l : List Channel). record { channels = l; place = n }) channels-of;
-        bounds = record { four = s .bounds .four; each = s .bounds .each; place = small };
-      }
 
   most-at-least-one : 1 ≤ sizeOf C .most
   most-at-least-one = lit≤ tt

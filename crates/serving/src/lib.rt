@@ -59,7 +59,8 @@ fn goes_on(piece: &[u8], at: usize, out: &[u8], put: usize) -> bool
 }
 
 // Serves a piece from a spot on, until it ends or there is no room for one answer line more. The channels stay where they are: a call gets a copy of
-// one, and the channel after it comes back. Each call has an arm of its own.
+// one, and the channel after it comes back. Each call has an arm of its own; what is found for a channel is for one of the four, so the remainder is
+// its number.
 pub fn serve(start: Card, piece: &[u8], from: Spot, frame: &mut [u8], out: &mut [u8]) -> Served
     requires { ⌜ Sound start × (Fits (from .line) (now frame) × ((from .at ≤ length (now piece)) × (from .put ≤ length (now out)))) ⌝ }
     ensures { λ r. ⌜ Serves start (now (piece .entry)) from (now (frame .entry)) (now (out .entry)) r (now (frame .exit)) (now (out .exit)) ⌝ }
@@ -75,7 +76,7 @@ pub fn serve(start: Card, piece: &[u8], from: Spot, frame: &mut [u8], out: &mut 
         let line = next.line;
         spot.line = line;
         let n = next.long;
-        let i = next.channel;
+        let i = next.channel % 4;
         let found = next.found;
         match found {
             Found::OnChannel(asked) => match asked {

@@ -4,9 +4,7 @@ use mathlib.Core.Path.{_≡_, refl, sym, subst}
 use Prim.Native.Nat.{ℕ, zero, suc, _≤_, _<_}
 use native.Mathlib.Omega.{arith}
 use lib.ListN.{length, take, getD, set, replicate}
-use Rattle.card.specs.declared.Card.{Card}
 use Rattle.card.specs.Held.{Sound}
-use Rattle.hexadecimal.specs.declared.LineSoFar.{LineSoFar}
 use Rattle.hexadecimal.specs.LineSoFar.{Fits}
 use Rattle.serving.specs.declared.Served.{Served}
 use Rattle.serving.specs.Served.{Serves}

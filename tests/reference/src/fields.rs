@@ -15,7 +15,7 @@ pub fn bytes_of_field(field: &str) -> Option<Vec<u8>> {
     let good_digits = field
         .bytes()
         .all(|character| matches!(character, b'0'..=b'9' | b'A'..=b'F'));
-    if field.is_empty() || !field.len().is_multiple_of(2) || !good_digits {
+    if field.is_empty() || field.len() % 2 != 0 || !good_digits {
         return None;
     }
     (0..field.len())

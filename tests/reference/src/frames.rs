@@ -54,7 +54,7 @@ pub fn answer_line(card: &mut Card, line: &[u8]) -> Vec<u8> {
 /// The frame's bytes, or none for "an empty line, a character that is no
 /// hexadecimal digit, an odd count of digits, more than 34 bytes".
 fn frame_of_line(line: &[u8]) -> Option<Vec<u8>> {
-    if line.is_empty() || !line.len().is_multiple_of(2) || line.len() / 2 > LONGEST_FRAME {
+    if line.is_empty() || line.len() % 2 != 0 || line.len() / 2 > LONGEST_FRAME {
         return None;
     }
     let mut frame = Vec::with_capacity(LONGEST_FRAME);

@@ -86,14 +86,14 @@ impl Generator {
         // Each profile has its own numbers for the same seed.
         let mut random = Random::new(seed.wrapping_mul(16).wrapping_add(profile as u64));
         let channel = random.below(4) as u8;
-        let flooded = (profile == Profile::Full && seed.is_multiple_of(3)).then_some(channel);
+        let flooded = (profile == Profile::Full && seed % 3 == 0).then_some(channel);
         let mut generator = Generator {
             random,
             profile,
             card: Card::fresh(),
             channel,
             planned: VecDeque::new(),
-            lower_case: !seed.is_multiple_of(2),
+            lower_case: seed % 2 != 0,
             flooded,
         };
         generator.plan_first_settings();

@@ -1,7 +1,6 @@
 use mathlib.Core.Path.{ap}
 use lib.Dec.{leb}
 use borrow.Author.Needs.{needs}
-use Rattle.paper.specs.Channel.{takeSettings}
 use Rattle.queue.proofs.Laws.{count-is}
 use Rattle.channel.specs.Held.{channelIn}
 use Rattle.channel.specs.Promise.{atThreshold}
