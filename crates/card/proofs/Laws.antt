@@ -33,7 +33,7 @@ use Rattle.picking.specs.Look.{found}
 use Rattle.card.specs.declared.Card.{Card}
 use Rattle.card.specs.declared.Answered.{Answered}
 use Rattle.card.specs.Held.{sizeOf, cardOf, cardIn, Sound}
-use Rattle.card.specs.Promise.{given, answered, Promise, Calls, orFour, nextReady}
+use Rattle.card.specs.Promise.{given, answered, Promise, AskedPromise, orFour, nextReady}
 
 channels-in : (z : Size) (l : List _) → map channelIn (map (channelOf z) l) ≡ l
 channels-in z [] = refl
@@ -91,26 +91,26 @@ searched K marks same p k (suc m) =
     go false n o e = e
 
 -- who is named is one of the four; 4 says that there is none
-data Named : Option ℕ → ℕ → Type 0 where
-  somebody : (n : ℕ) → n < 4 → Named (some n) n
-  nobody : Named none 4
+data NamedChannel : Option ℕ → ℕ → Type 0 where
+  somebody : (n : ℕ) → n < 4 → NamedChannel (some n) n
+  nobody : NamedChannel none 4
 
-named-ahead : (K : model.Card Unit) (p k count : ℕ) → Named (firstReady K (ahead p k count)) (orFour (firstReady K (ahead p k count)))
+named-ahead : (K : model.Card Unit) (p k count : ℕ) → NamedChannel (firstReady K (ahead p k count)) (orFour (firstReady K (ahead p k count)))
 named-ahead K p k zero = nobody
 named-ahead K p k (suc m) = go (ready K ((p + suc k) % 4)) (firstReady K (ahead p (suc k) m)) (named-ahead K p (suc k) m)
   where
     n : ℕ
     n = (p + suc k) % 4
 
-    go : (t : Bool) (o : Option ℕ) → Named o (orFour o) → Named (if t then some n else o) (orFour (if t then some n else o))
+    go : (t : Bool) (o : Option ℕ) → NamedChannel o (orFour o) → NamedChannel (if t then some n else o) (orFour (if t then some n else o))
     go true o h = somebody n (omega arith)
     go false o h = h
 
-is-named : {o : Option ℕ} {n : ℕ} → Named o n → n < 4 → o ≡ some n
+is-named : {o : Option ℕ} {n : ℕ} → NamedChannel o n → n < 4 → o ≡ some n
 is-named (somebody n h) small = refl
 is-named nobody small = absurd (omega arith)
 
-is-nobody : {o : Option ℕ} {n : ℕ} → Named o n → 4 ≤ n → o ≡ none
+is-nobody : {o : Option ℕ} {n : ℕ} → NamedChannel o n → 4 ≤ n → o ≡ none
 is-nobody (somebody n h) beyond = absurd (omega arith)
 is-nobody nobody beyond = refl
 
@@ -165,7 +165,7 @@ module _ (C : Card) (s : Sound C) where
   unfolding nextReady
   looked d e₀ e₁ e₂ e₃ e = (rw (e₀, e₁, e₂, e₃) at e) ∙ searched (cardIn C) (marks d C) (mark-is d) (C .place) 0 4
 
-  named : (n : ℕ) → n ≡ nextReady C → Named (firstReady (cardIn C) (round (C .place))) n
+  named : (n : ℕ) → n ≡ nextReady C → NamedChannel (firstReady (cardIn C) (round (C .place))) n
   unfolding nextReady
   named n e = rw e (named-ahead (cardIn C) (C .place) 0 4)
 
@@ -214,13 +214,13 @@ module _ (C : Card) (s : Sound C) where
 
   -- by what is asked of it
   pub calls : (n : ℕ) (d : Channel) (asked : Asked) (bytes : List ℕ) (place : ℕ) (r : one.Answered) (after : List ℕ) → n ≤ 3
-      → channel-promise.Calls (getD (C .channels) n d) asked bytes place r after
-      → Calls C n asked bytes place (record { answer = r .answer; card = record { channels = set (C .channels) n (r .channel); place = C .place } }) after
+      → channel-promise.AskedPromise (getD (C .channels) n d) asked bytes place r after
+      → AskedPromise C n asked bytes place (record { answer = r .answer; card = record { channels = set (C .channels) n (r .channel); place = C .place } }) after
   calls n d asked bytes place r after small p =
       record { lent = p .lent; kept = serves n d (callWith asked bytes place) r (p .lent) small (p .kept); at-hand = p .at-hand }
 
   pub refuses-asked : (n : ℕ) (asked : Asked) (bytes : List ℕ) (place : ℕ) → 3 < n
-      → Calls C n asked bytes place (record { answer = Refused BadChannel; card = C }) bytes
+      → AskedPromise C n asked bytes place (record { answer = Refused BadChannel; card = C }) bytes
   refuses-asked n asked bytes place above =
       let call = callWith asked bytes place in
       record { lent = lent call; kept = refuses n call above; at-hand = sym (lent-and-unlent asked bytes place) }

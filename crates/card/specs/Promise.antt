@@ -30,7 +30,7 @@ pub record Promise (C : Card) (call : Call) (r : Answered) (lent : List ℕ) : T
   pub sound : Sound (r .card)
 
 -- A call by what is asked of a channel, with bytes at hand: the promise is kept with those that the call is lent, and the others stay.
-pub record Calls (C : Card) (channel : ℕ) (asked : Asked) (before : List ℕ) (place : ℕ) (r : Answered) (after : List ℕ) : Type 0 where
+pub record AskedPromise (C : Card) (channel : ℕ) (asked : Asked) (before : List ℕ) (place : ℕ) (r : Answered) (after : List ℕ) : Type 0 where
   pub lent : List ℕ
   pub kept : Promise C (on channel (callWith asked before place)) r lent
   pub at-hand : after ≡ lent ++ unlent asked before

@@ -9,7 +9,7 @@ use Rattle.paper.specs.declared.Asked.{Asked}
 use Rattle.card.specs.declared.Card.{Card}
 use Rattle.card.specs.declared.Answered.{Answered}
 use Rattle.card.specs.Held.{cardOf, cardIn}
-use Rattle.card.specs.Promise.{Promise, Calls}
+use Rattle.card.specs.Promise.{Promise, AskedPromise}
 
 -- A record that was called, what the caller saw of each call, each promise kept, and the record that was left
 pub data Called : Card → List Call → List Seen → Card → Type 0 where
@@ -29,4 +29,4 @@ pub record CardAsThePaper : Type 0 where
 pub record OneAnswer : Type 0 where
   pub by-name : (C : Card) (c : Call) (r r' : Answered) (l l' : List ℕ) → Promise C c r l → Promise C c r' l' → (r ≡ r') × (l ≡ l')
   pub by-asking : (C : Card) (n : ℕ) (asked : Asked) (before : List ℕ) (place : ℕ) (r r' : Answered) (after after' : List ℕ)
-      → Calls C n asked before place r after → Calls C n asked before place r' after' → (r ≡ r') × (after ≡ after')
+      → AskedPromise C n asked before place r after → AskedPromise C n asked before place r' after' → (r ≡ r') × (after ≡ after')

@@ -4,7 +4,7 @@ ghost use mathlib.Core.Path.{_≡_};
 ghost use Rattle.paper.specs.Settings.{cardSize};
 ghost use Rattle.paper.specs.Card.{pick, freshCard};
 ghost use Rattle.card.specs.Held.{Sound, cardOf};
-ghost use Rattle.card.specs.Promise.{Promise, Calls, nextReady};
+ghost use Rattle.card.specs.Promise.{Promise, AskedPromise, nextReady};
 use channel::Channel;
 use paper::Answer;
 use paper::Asked;
@@ -38,7 +38,7 @@ impl Card {
     // channel above 3.
     pub fn call(mut self, channel: u8, asked: Asked, bytes: &mut [u8], place: usize) -> Answered
         requires { ⌜ Sound self ⌝ }
-        ensures { λ r. ⌜ Calls self channel asked (now (bytes .entry)) place r (now (bytes .exit)) ⌝ }
+        ensures { λ r. ⌜ AskedPromise self channel asked (now (bytes .entry)) place r (now (bytes .exit)) ⌝ }
     {
         if 3 < channel {
             return Answered {

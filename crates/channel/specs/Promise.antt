@@ -32,7 +32,7 @@ pub record Promise (c : Channel) (call : ChannelCall) (r : Answered) (lent : Lis
   pub sound : Sound (r .channel)
 
 -- A call by what is asked, with bytes at hand: the promise is kept with those that the call is lent, and the others stay.
-pub record Calls (c : Channel) (asked : Asked) (before : List ℕ) (place : ℕ) (r : Answered) (after : List ℕ) : Type 0 where
+pub record AskedPromise (c : Channel) (asked : Asked) (before : List ℕ) (place : ℕ) (r : Answered) (after : List ℕ) : Type 0 where
   pub lent : List ℕ
   pub kept : Promise c (callWith asked before place) r lent
   pub at-hand : after ≡ lent ++ unlent asked before
@@ -42,7 +42,7 @@ pub record OneAnswer : Type 0 where
   pub by-name : (c : Channel) (call : ChannelCall) (r r' : Answered) (l l' : List ℕ)
       → Promise c call r l → Promise c call r' l' → (r ≡ r') × (l ≡ l')
   pub by-asking : (c : Channel) (asked : Asked) (before : List ℕ) (place : ℕ) (r r' : Answered) (after after' : List ℕ)
-      → Calls c asked before place r after → Calls c asked before place r' after' → (r ≡ r') × (after ≡ after')
+      → AskedPromise c asked before place r after → AskedPromise c asked before place r' after' → (r ≡ r') × (after ≡ after')
 
 -- "waiting items reach its threshold"
 unfoldable pub atThreshold : Channel → Bool

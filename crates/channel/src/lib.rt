@@ -5,7 +5,7 @@ ghost use Rattle.paper.specs.Settings.{freshSettings, cardSize};
 ghost use Rattle.paper.specs.Channel as calls;
 ghost use Rattle.paper.specs.Transmitter as lines;
 ghost use Rattle.channel.specs.Held.{Sound, channelOf};
-ghost use Rattle.channel.specs.Promise.{Promise, Calls, atThreshold};
+ghost use Rattle.channel.specs.Promise.{Promise, AskedPromise, atThreshold};
 use judging::Judged;
 use paper::Answer;
 use paper::Asked;
@@ -184,7 +184,7 @@ impl Channel {
     // Any of these calls, by what is asked. The bytes at hand are lent to the calls that take some; the place is a read's.
     pub fn call(self, asked: Asked, bytes: &mut [u8], place: usize) -> Answered
         requires { ⌜ Sound self ⌝ }
-        ensures { λ r. ⌜ Calls self asked (now (bytes .entry)) place r (now (bytes .exit)) ⌝ }
+        ensures { λ r. ⌜ AskedPromise self asked (now (bytes .entry)) place r (now (bytes .exit)) ⌝ }
     {
         match asked {
             Asked::Arrive(kind, byte) => self.arrive(kind, byte),
