@@ -30,7 +30,8 @@ same-length c = search needs
 returns-2 : tie.Need-returns-2
 returns-2 c =
     let a = c .before .before .before .before .before .before .before .before in
-    calls (a .args .t1) (a .pre) (a .args .channel) _ (a .args .asked) (a .args .bytes .now) (a .args .place) _ _ (omega arith) (c .before .before .before .call .ensures)
+    calls (a .args .t1) (a .pre) (a .args .channel) _ (a .args .asked) (a .args .bytes .now) (a .args .place) _ _ (omega arith)
+    (c .before .before .before .call .ensures)
 
 pub call-spec : {M : Type 1} → statement M
 call-spec =
