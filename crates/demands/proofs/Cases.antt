@@ -25,9 +25,9 @@ use Rattle.paper.specs.declared.Answer.the-variants.{Silent, Sent, Done, Picked
 use Rattle.demands.specs.History.{nothingSaid, report, request, arrivals}
 use Rattle.demands.proofs.Choices.{chosen, chosen-or, either}
 
--- LINE CALLS
+-- CALLS ON THE TRANSMITTER
 
--- a line call that is served and queues no byte
+-- one that is served and queues no byte
 pub record Other (t : Transmitter) (c : TransmitCall) (g : Given Transmitter) : Type 0 where
   pub calm : report (g .answer) ≡ nothingSaid
   pub short : length (g .next .bytes) ≤ length (t .bytes)
