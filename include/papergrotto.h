@@ -33,9 +33,12 @@
 extern "C" {
 #endif
 
-/* "a receive queue of 12 items", and "Read n characters, n from 0 to 12": the most that a read asks
- * for and a threshold names */
-#define PAPERGROTTO_DEPTH 12
+/* How many items a receive queue holds: twelve, and one that is held behind them and moves up when a
+ * read makes room. The next one is lost. */
+#define PAPERGROTTO_DEPTH 13
+
+/* "Read n characters, n from 0 to 12": the most that a read asks for, a threshold names and a state
+ * shows waiting. Where 12 are shown, one more may be held. */
 #define PAPERGROTTO_MOST 12
 
 /* "a transmit queue of 12 bytes" */
@@ -47,7 +50,7 @@ extern "C" {
 /* The longest image of a character: FF 00 and the damaged byte. A read of n asks for 3 n bytes. */
 #define PAPERGROTTO_IMAGE 3
 
-#define PAPERGROTTO_CHANNEL_SIZE 96
+#define PAPERGROTTO_CHANNEL_SIZE 104
 #define PAPERGROTTO_CHANNEL_ALIGNMENT 8
 
 /* A channel's record. All fields are private. */
@@ -130,9 +133,10 @@ bool papergrotto_ready(struct papergrotto_channel channel);
 
 /* ---- what the host does ---- */
 
-/* Reads n characters, 0 to 12: the images of the oldest that wait go into the buffer from the
- * place on. values[0] to [2]: characters removed, how many of them had the overrun flag, bytes
- * written. Refusals 3 and 4. */
+/* Reads n characters, 0 to PAPERGROTTO_MOST: the images of the oldest that wait go into the buffer
+ * from the place on. values[0] to [2]: characters removed, how many of them had the overrun flag,
+ * bytes written. Where PAPERGROTTO_MOST were removed one may be left: a host that wants all reads
+ * again. Refusals 3 and 4. */
 struct papergrotto_told papergrotto_read(struct papergrotto_channel *channel, size_t n,
                                          uint8_t *buffer, size_t length, size_t place);
 
@@ -151,8 +155,8 @@ struct papergrotto_told papergrotto_ask_special(struct papergrotto_channel *chan
 /* CTS is now 0 or 1. Refusal 10. */
 struct papergrotto_told papergrotto_set_cts(struct papergrotto_channel *channel, uint8_t value);
 
-/* values[0] to [3]: waiting items, bytes in the transmit queue, stopped (1) or running (0), loss
- * count. */
+/* values[0] to [3]: waiting items, at most PAPERGROTTO_MOST, bytes in the transmit queue, stopped (1)
+ * or running (0), loss count. */
 struct papergrotto_told papergrotto_state(struct papergrotto_channel channel);
 
 /* ---- what the records computer does with a marked stream ---- */

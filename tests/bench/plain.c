@@ -13,7 +13,9 @@ void *memcpy(void *, const void *, size_t);
 void *memset(void *, int, size_t);
 
 enum {
-    DEPTH = 12,         /* "a receive queue of 12 items, a transmit queue of 12 bytes" */
+    DEPTH = 13,         /* "a receive queue of 12 items", and "One more place is to hold an item behind the twelve" */
+    MOST = 12,          /* "a read asks for at most 12", "State still shows at most 12 waiting" */
+    LINE = 12,          /* "a transmit queue of 12 bytes" */
     FRAME = 34,         /* "at most 34 bytes" */
     NO_FRAME = 69,      /* the count of digits of a line that refusal 11 is due to: odd, so no frame has it */
     PIECE = 65536,
@@ -31,17 +33,17 @@ enum { PLAIN, DOUBLED, DAMAGED_BYTE };                  /* an item's kinds */
 typedef struct {
     uint8_t settings[15];
     uint8_t literal, stopped;
-    uint8_t head, count;                /* receive queue: a ring of 16 places, of which at most 12 are used */
+    uint8_t head, count;                /* receive queue: a ring of 16 places, of which at most 13 are used */
     uint8_t kind[16], byte[16], flag[16];
     uint16_t losses;
-    uint8_t first, sending;             /* transmit queue: the same */
+    uint8_t first, sending;             /* transmit queue: the same, at most 12 */
     uint8_t line[16];
     uint8_t owed, waits, special, cts;  /* an owed NL; whether a special waits, and which; CTS */
 } Channel;
 
 static const uint8_t FRESH[15] = {1, 1, 0, 0, 0, 0, 0, 1, 0, 0, 0x11, 0x13, 0, 0, 0x16};
 static const uint8_t LOW[10] = {1, 0, 0, 0, 0, 0, 0, 1, 0, 0};
-static const uint8_t HIGH[10] = {4, 1, 1, 7, 2, 1, 1, 12, 1, 1};
+static const uint8_t HIGH[10] = {4, 1, 1, 7, 2, 1, 1, MOST, 1, 1};
 static const uint8_t CR_GIVES[8] = {13, 13, 10, 10, 0, 0, 0, 0};       /* 0 is "nothing" */
 static const uint8_t NL_GIVES[8] = {10, 13, 10, 13, 10, 13, 10, 13};
 
@@ -68,7 +70,7 @@ static inline void say2(uint8_t a, uint8_t b) {
     say(b);
 }
 
-/* "If 12 items wait, the new one is lost, the newest waiting item gets the overrun flag" */
+/* "A loss now happens at thirteen, and the flag goes on the newest item, which is the held one." */
 static inline void store(Channel *c, uint8_t kind, uint8_t b) {
     if (c->count == DEPTH) {
         c->flag[(c->head + DEPTH - 1) & 15] = 1;
@@ -120,7 +122,7 @@ static void arrive(Channel *c, uint8_t kind, uint8_t b) {
 }
 
 static void read_characters(Channel *c, uint8_t n) {
-    if (n > DEPTH) { say(3); return; }
+    if (n > MOST) { say(3); return; }
     if (n > c->count) n = c->count;
     say2(0, n);
     size_t at = put;                    /* the count of flagged ones goes here */
@@ -139,7 +141,7 @@ static void read_characters(Channel *c, uint8_t n) {
 }
 
 static void load(Channel *c, const uint8_t *bytes, size_t n) {
-    unsigned room = DEPTH - c->sending;
+    unsigned room = LINE - c->sending;
     if (n > room) n = room;
     for (unsigned i = 0; i < n; i++) c->line[(c->first + c->sending + i) & 15] = bytes[i];
     c->sending += n;
@@ -195,7 +197,7 @@ static void pick(void) {
 }
 
 static void state(Channel *c) {
-    say2(0, c->count);
+    say2(0, c->count < MOST ? c->count : MOST);
     say2(c->sending, c->stopped);
     say2(c->losses >> 8, c->losses & 255);
 }

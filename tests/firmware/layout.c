@@ -20,7 +20,10 @@ static void expect(bool holds, const char *what)
 
 #define EXPECT(what) expect(what, #what)
 
-enum { AROUND = 7 * PAPERGROTTO_CHANNEL_ALIGNMENT };
+enum {
+    AROUND = 7 * PAPERGROTTO_CHANNEL_ALIGNMENT,
+    HELD = PAPERGROTTO_DEPTH - 1    /* the place behind the twelve */
+};
 
 /* A record between bytes that no call may touch. It is aligned as the header says and no better, so
  * that a call that asks for more is found out. */
@@ -86,9 +89,10 @@ static void receive_queue(void)
     for (int more = 3; more < PAPERGROTTO_DEPTH + 0x203; more++)
         papergrotto_arrive(channel, PAPERGROTTO_GOOD, (uint8_t)(more < PAPERGROTTO_DEPTH ? 0x30 + more : 0x21));
     EXPECT(channel->queue.count == PAPERGROTTO_DEPTH && channel->queue.losses == 0x203);
-    EXPECT(channel->queue.bytes[11] == 0x3B && channel->queue.flags[11] == 1 && channel->queue.flags[10] == 0);
+    EXPECT(papergrotto_state(*channel).values[0] == 12 && papergrotto_state(*channel).values[3] == 0x203);
+    EXPECT(channel->queue.bytes[HELD] == 0x3C && channel->queue.flags[HELD] == 1 && channel->queue.flags[HELD - 1] == 0);
     EXPECT(papergrotto_read(channel, 1, buffer, sizeof buffer, 0).values[2] == 1 && buffer[0] == 0x41);
-    EXPECT(channel->queue.count == 11 && channel->queue.kinds[0] == 1 && channel->queue.flags[10] == 1 && channel->queue.flags[11] == 0);
+    EXPECT(channel->queue.count == 12 && channel->queue.kinds[0] == 1 && channel->queue.flags[HELD - 1] == 1 && channel->queue.flags[HELD] == 0);
     EXPECT(untouched(&made, 0x5A));
 }
 

@@ -9,6 +9,7 @@ import types
 PASS, DISCARD, NULL, MARK = 1, 2, 3, 4
 GOOD, BREAK = 0, 3
 CR, NL = 0x0D, 0x0A
+FULL = 13       # the paper's 12, and behind them one more: "A loss now happens at thirteen" in request a
 LENGTHS = {1: 4, 2: 3, 3: 2, 4: 2, 5: 3, 6: 3, 7: 2, 8: 1, 9: 2, 10: 2}      # the least listed length of each frame
 ROWS = [(CR, NL), (CR, CR), (NL, NL), (NL, CR), (None, NL), (None, CR), (None, NL), (None, CR)]
 
@@ -109,6 +110,13 @@ def always():
         r.new.settings == list(r.frame[2:])
     yield 'XOFF stops the transmitter, and nothing else does', lambda r: r.old is None or (
         r.new.stopped if r.happened('XOFF') else r.old.stopped or not r.new.stopped)
+    # request a: "A loss now happens at thirteen", "it moves up when a read makes room", "State still shows at most 12 waiting"
+    yield 'an item is lost only where thirteen are there', lambda r: not r.happened('lost') or len(r.old.receive_queue) == FULL
+    yield 'an item is stored only where fewer are there', lambda r: not r.happened('stored') or len(r.old.receive_queue) < FULL
+    yield 'a read takes the oldest, and the others move up', lambda r: not (r.is_call(2) and r.served) or (
+        r.answer[1] == min(r.frame[2], len(r.old.receive_queue)) and r.new.receive_queue == r.old.receive_queue[r.answer[1]:])
+    yield 'a state shows the items that are there, 12 at most', lambda r: not r.is_call(10) or \
+        r.answer[1] == min(len(r.old.receive_queue), 12)
 
 
 # ---- refusals
@@ -247,7 +255,7 @@ def taking():
 
     yield 'clears the literal mark', took(lambda r: r.old.literal_mark and not r.new.literal_mark)
     yield 'sets the transmitter running', took(lambda r: r.old.stopped and not r.new.stopped)
-    yield 'leaves a full receive queue', took(lambda r: len(r.old.receive_queue) == 12 and r.new.receive_queue == r.old.receive_queue)
+    yield 'leaves a full receive queue', took(lambda r: len(r.old.receive_queue) == FULL and r.new.receive_queue == r.old.receive_queue)
     yield 'leaves the transmit queue', took(lambda r: r.old.transmit_queue and r.new.transmit_queue == r.old.transmit_queue)
     yield 'leaves an owed NL', took(lambda r: r.old.owed_nl and r.new.owed_nl)
     yield 'leaves a waiting special', took(lambda r: r.old.waiting_special is not None and r.new.waiting_special == r.old.waiting_special)
@@ -381,10 +389,10 @@ def full_queue():
     for event in ('break kept', 'damaged marked', 'damaged null'):
         yield f'{event}, lost, clears the mark', at_full(lambda r, e=event: r.happened(e) and r.old.literal_mark and not r.new.literal_mark)
     for name in ('XON', 'XOFF'):
-        yield f'a swallowed {name} is not lost', lambda r, n=name: r.happened(n) and len(r.old.receive_queue) == 12 and r.answer == [0, 1]
-    yield 'a discarded character is not lost', lambda r: r.happened('damaged discarded') and len(r.old.receive_queue) == 12
-    yield 'an ignored break is not lost', lambda r: r.happened('break ignored') and len(r.old.receive_queue) == 12
-    yield 'a line ending that gives nothing is not lost', lambda r: r.happened('step 7') and len(r.old.receive_queue) == 12 and \
+        yield f'a swallowed {name} is not lost', lambda r, n=name: r.happened(n) and len(r.old.receive_queue) == FULL and r.answer == [0, 1]
+    yield 'a discarded character is not lost', lambda r: r.happened('damaged discarded') and len(r.old.receive_queue) == FULL
+    yield 'an ignored break is not lost', lambda r: r.happened('break ignored') and len(r.old.receive_queue) == FULL
+    yield 'a line ending that gives nothing is not lost', lambda r: r.happened('step 7') and len(r.old.receive_queue) == FULL and \
         r.answer == [0, 1]
     yield 'the newest item gets the flag', at_full(lambda r: not any(i[2] for i in r.old.receive_queue) and r.new.receive_queue[-1][2] == 1)
     yield 'the flag is set again', at_full(lambda r: r.old.receive_queue[-1][2] == 1)
@@ -409,8 +417,8 @@ def reading():
     yield 'overrun flag of a damaged item told', told(lambda r, count, flagged: flagged and r.old.receive_queue[count - 1][0] == 'damaged')
     yield 'a read before the flagged item tells none', told(
         lambda r, count, flagged: count and not flagged and any(i[2] for i in r.new.receive_queue))
-    yield 'room made by a read is taken again', lambda r: r.happened('stored') and len(r.new.receive_queue) == 12 and any(
-        p.is_call(2) and p.served and p.number == r.number and p.answer[1] in (1, 2) and len(p.old.receive_queue) == 12 for p in r.past[-3:])
+    yield 'room made by a read is taken again', lambda r: r.happened('stored') and len(r.new.receive_queue) == FULL and any(
+        p.is_call(2) and p.served and p.number == r.number and p.answer[1] in (1, 2) and len(p.old.receive_queue) == FULL for p in r.past[-3:])
 
 
 def loading():
@@ -562,13 +570,85 @@ def spelling():
     yield 'a line after a long one stands by itself', lambda r: r.served and any(len(p.line) > 8000 for p in r.past[-1:])
 
 
+# ---- request a
+
+def there(number, test):
+    """On a channel with so many items there."""
+    return lambda r: r.old is not None and len(r.old.receive_queue) == number and test(r)
+
+
+def filled(records, number):
+    """Thirteen arrivals in a row, all stored, on this channel that was empty."""
+    return len(records) == FULL and not records[0].before.channels[number].receive_queue and all(
+        p.happened('stored') and p.number == number for p in records)
+
+
+def flags(channel):
+    """The places of the items with the overrun flag; the oldest item has place 1."""
+    return [place for place, item in enumerate(channel.receive_queue, 1) if item[2]]
+
+
+def thirteenth():
+    yield 'thirteen in a row are stored', lambda r: r.happened('stored') and filled((r.past + [r])[-FULL:], r.number)
+    yield 'the fourteenth in a row is lost, the thirteenth has the flag, the count rises', there(FULL, lambda r: r.happened('lost') and
+        filled(r.past[-FULL:], r.number) and flags(r.new) == [13] and r.new.loss_count == r.old.loss_count + 1)
+    yield 'the thirteenth is stored behind twelve, without a flag', there(12, lambda r: r.happened('stored') and not flags(r.new))
+    for kind in ('plain', 'doubled', 'damaged'):
+        yield f'the thirteenth is {kind}', there(12, lambda r, k=kind: r.happened('stored') and r.new.receive_queue[-1][0] == k)
+    for number, shown in ((11, 11), (12, 12), (13, 12)):
+        yield f'state shows {shown} with {number} there', there(number, lambda r, n=shown: r.is_call(10) and r.answer[1] == n)
+    yield 'state shows 12 and the loss count with 13 there', there(FULL, lambda r: r.is_call(10) and r.answer[1] == 12 and r.answer[5])
+    yield 'a read of 13 is refused with 13 there', there(FULL, lambda r: r.refused(3) and r.frame[2] == 13)
+    yield 'threshold 13 is refused with 13 there', there(FULL, lambda r: r.refused(5, 8) and r.frame[9] == 13)
+    for number in (12, 13):
+        yield f'threshold 12 with {number} there', lambda r, n=number: named(r) is not None and \
+            r.before.channels[named(r)].field(8) == 12 and len(r.before.channels[named(r)].receive_queue) == n
+    yield 'XOFF is obeyed though 13 wait', there(FULL, lambda r: r.happened('XOFF') and not r.old.stopped and r.new.stopped)
+    yield 'XOFF is the thirteenth, stored and obeyed', there(12, lambda r: r.happened('XOFF', 'stored') and r.new.stopped)
+    yield 'a swallowed XOFF behind twelve takes no place', there(12, lambda r: r.happened('XOFF') and r.answer == [0, 1])
+    yield 'settings leave 13, with their flag', there(FULL, lambda r: r.is_call(7) and r.served and flags(r.new) == [13])
+    yield 'reset drops 13', there(FULL, lambda r: r.is_call(9))
+    yield 'after a reset with 13 there a read finds none', lambda r: r.is_call(2) and r.answer == [0, 0, 0] and any(
+        p.is_call(9) and p.number == r.number and len(p.old.receive_queue) == FULL for p in r.past[-2:])
+    yield 'two channels with 13', lambda r: sum(len(c.receive_queue) == FULL for c in r.after.channels) > 1
+
+
+def after_read(n, test):
+    """On a channel that a read of n just found with thirteen there."""
+    return lambda r: r.old is not None and test(r) and any(
+        p.is_call(2) and p.served and p.number == r.number and p.frame[2] == n and len(p.old.receive_queue) == FULL for p in r.past[-1:])
+
+
+def held():
+    def leaves_one(test):
+        return there(FULL, lambda r: r.is_call(2) and r.served and r.answer[1] == 12 and test(r))
+
+    taken = after_read(1, lambda r: r.happened('stored') and len(r.new.receive_queue) == FULL)
+    yield 'a read of twelve out of thirteen leaves one', leaves_one(lambda r: len(r.new.receive_queue) == 1)
+    yield 'the one that is left keeps its flag, and the read tells none', leaves_one(lambda r: flags(r.new) == [1] and not r.answer[2])
+    yield 'the flag is found on the thirteenth, by a read of one after a read of twelve', after_read(
+        12, lambda r: r.is_call(2) and r.frame[2] == 1 and r.answer[1:3] == [1, 1])
+    yield 'a line of thirteen in two reads, and nothing is lost', after_read(
+        12, lambda r: r.is_call(2) and r.answer[1:3] == [1, 0] and not r.new.receive_queue and not r.new.loss_count)
+    yield 'a held item read in another mode', after_read(
+        12, lambda r: r.is_call(2) and r.answer[3:] == [0xFF, 0xFF] and r.old.field(1) != MARK)
+    yield 'twelve damaged items out of thirteen: 36 bytes', leaves_one(lambda r: len(r.answer) == 39)
+    yield 'room made by a read of one is taken again', taken
+    yield 'one more behind it is lost again', lambda r: r.happened('lost') and any(taken(p) and p.number == r.number for p in r.past[-1:])
+    yield 'a read of none makes no room', after_read(0, lambda r: r.happened('lost'))
+    yield 'a read of twelve makes room for twelve', there(FULL, lambda r: r.happened('lost') and any(
+        leaves_one(lambda p: p.number == r.number)(p) for p in r.past[-14:-12]) and all(p.happened('stored') for p in r.past[-12:]))
+    yield 'a flag that has moved up, and none on the held item', there(12, lambda r: r.happened('stored') and flags(r.new) == [12])
+    yield 'a flag that has moved up, and one on the held item', there(FULL, lambda r: r.happened('lost') and flags(r.new) == [12, 13])
+
+
 MET = [
     ('refusals by number', refusals), ('refusal 11', no_frame), ('order of refusals', order),
     ('settings: ranges', setting_edges), ('settings: crossed values', crossed), ('taking settings', taking),
     ('damaged characters and breaks', damage), ('good FF', good_ff), ('line endings', endings), ('flow characters', flow),
     ('literal-next', literal), ('a full queue', full_queue), ('reads', reading), ('loads', loading), ('line turns', turns),
     ('special characters', special_characters), ('picks', picking), ('states', states), ('resets', resets),
-    ('spelling', spelling),
+    ('spelling', spelling), ('the thirteenth character', thirteenth), ('the held item', held),
 ]
 ALWAYS = always
 

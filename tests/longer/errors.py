@@ -1,4 +1,4 @@
-"""The paper's "Errors that look right", each as an edit of the reference that the longer trace must tell from the right one."""
+"""The paper's "Errors that look right" and four of request a, each as an edit of the reference that the longer trace must tell apart."""
 import os
 import subprocess
 
@@ -14,13 +14,24 @@ ERRORS = [
      'let byte = if self.settings.strip {'),
     ('CR and NL swapped by two tests one after the other', 'match comes_out {',
      'match if comes_out == Some(NL) { nl_gives } else { comes_out } {'),
-    ('room counted in bytes', 'self.receive_queue.len() < QUEUE_DEPTH',
+    ('room counted in bytes', 'self.receive_queue.len() < RECEIVE_QUEUE_DEPTH',
      'self.receive_queue.iter().chain([&WaitingItem { item, overrun: false }]).map(|waiting| waiting.item.image().len()).sum::<usize>()'
-     ' <= QUEUE_DEPTH'),
+     ' <= RECEIVE_QUEUE_DEPTH'),
     ('XOFF without effect because the queue is full', 'self.stopped = is_xoff;',
-     'self.stopped = is_xoff && self.receive_queue.len() < QUEUE_DEPTH;'),
+     'self.stopped = is_xoff && self.held_item.is_none();'),
     ('a break told from a damaged 00 by the bytes', 'Kind::Break => self.arrival_step_1_break(),',
      'Kind::FramingError if byte == 0x00 => self.arrival_step_1_break(),\nKind::Break => self.arrival_step_1_break(),'),
+    # request a: "the flag goes on the newest item, which is the held one"
+    ('the flag on the twelfth item', 'newest.overrun = true;', 'self.receive_queue[RECEIVE_QUEUE_DEPTH - 1].overrun = true;'),
+    # "State still shows at most 12 waiting"
+    ('a state that shows 13', 'waiting: self.receive_queue.len(),', 'waiting: self.items().count(),'),
+    # "a read asks for at most 12"
+    ('a read of 13 served', 'if n > RECEIVE_QUEUE_DEPTH {',
+     'if n == MOST_ITEMS { return Ok(channel.read(n, buffer, place)); }\nif n > RECEIVE_QUEUE_DEPTH {'),
+    # "A loss now happens at thirteen": as the paper had it, with its flag on the twelfth and its count
+    ('a loss at twelve', 'self.held_item = Some(arrived);',
+     'self.receive_queue[RECEIVE_QUEUE_DEPTH - 1].overrun = true;\nself.loss_count = self.loss_count.saturating_add(1);\n'
+     'return Fate::Lost;'),
 ]
 
 # the frame program alone: without the generators it is compiled in less than a second

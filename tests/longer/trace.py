@@ -1,5 +1,5 @@
 #!/usr/bin/env python3
-"""Writes the longer trace to standard output: sections written by hand, each for a few sentences of the paper.
+"""Writes the longer trace to standard output: sections written by hand, each for a few sentences of the paper or of request a.
 
     trace.py > crates/frames_longer/stdin
 
@@ -88,8 +88,8 @@ def state(*channels):
 
 
 def full(channel, first=0x61):
-    """Twelve arrivals: a, b, c, ... l."""
-    arrive(channel, *range(first, first + 12))
+    """Thirteen arrivals: a, b, c, ... m. Request a: "A loss now happens at thirteen"."""
+    arrive(channel, *range(first, first + 13))
 
 
 # ---- the card and its picks
@@ -137,7 +137,7 @@ def picks():
 
 
 def thresholds():
-    # "service threshold | 1 to 12", "reach": 11 waiting do not reach 12, 12 do; a loss at 12 leaves it reached
+    # "service threshold | 1 to 12", "reach": 11 waiting do not reach 12, 12 do, and 13 do; a loss at 13 leaves it reached
     settings(1, threshold=12)
     settings(2, threshold=3)
     arrive(1, *range(0x30, 0x3B))
@@ -148,6 +148,10 @@ def thresholds():
     arrive(1, 0x3B)
     pick(3)
     arrive(1, 0x3C)
+    pick(2)
+    arrive(1, 0x3D)
+    pick(2)
+    read(1, 1)
     pick(2)
     read(1, 1)
     read(2, 0)
@@ -538,27 +542,29 @@ def nothing_to_store_at_a_full_queue():
 
 def losses():
     # "If 12 items wait, the new one is lost, the newest waiting item gets the overrun flag ... and the loss count rises
-    # by 1"; the flag is told by the read that removes its item
+    # by 1"; with request a, if 13 do. The flag is told by the read that removes its item
     full(1)
     arrive(1, 0x78, 0x79)
     state(1)
-    read(1, 11)
+    read(1, 12)
     read(1, 1)
     state(1)
     # two flagged items in one read: the newest is another one each time
     full(1)
     arrive(1, 0x78)
     read(1, 1)
-    arrive(1, 0x6D)
+    arrive(1, 0x6E)
     arrive(1, 0x79)
+    read(1, 1)
     read(1, 12)
     # a damaged item with the flag; 12 damaged ones write 36 bytes
     settings(1, damaged=MARK)
-    for byte in range(0xA0, 0xAC):
+    for byte in range(0xA0, 0xAD):
         arrive(1, byte, kind=PARITY)
-    arrive(1, 0xAC, kind=FRAMING)
+    arrive(1, 0xAD, kind=FRAMING)
     state(1)
     read(1, 12)
+    read(1, 1)
     # a room made by a read is taken again
     full(1)
     arrive(1, 0xFF)
@@ -587,6 +593,70 @@ def many_losses():
     state(3)
 
 
+def thirteenth_character():
+    # request a: "thirteen-character lines lose their last digit on our box but not on the old card"
+    arrive(2, *b'LITRES 001234')
+    read(2, 12)
+    read(2, 1)
+    state(2)
+    # "One more place is to hold an item behind the twelve"; "State still shows at most 12 waiting"
+    arrive(2, *range(0x61, 0x6C))
+    for byte in (0x6C, 0x6D):
+        state(2)
+        arrive(2, byte)
+    state(2)
+    # "A loss now happens at thirteen, and the flag goes on the newest item, which is the held one"
+    arrive(2, 0x6E)
+    state(2)
+    # "a read asks for at most 12"; nor is a threshold above 12
+    read(2, 13)
+    settings(2, threshold=13)
+    # "it moves up when a read makes room": a read of nothing makes none, a read of twelve makes room for twelve
+    read(2, 0)
+    arrive(2, 0x6F)
+    read(2, 12)
+    state(2)
+    arrive(2, *range(0x70, 0x7D))
+    state(2)
+    read(2, 12)
+    read(2, 1)
+    state(2)
+    reset(2)
+
+
+def held_item():
+    # request a: "it moves up when a read makes room", with the flag that it has; the newest item is then another one
+    full(2)
+    read(2, 1)
+    arrive(2, 0x6E, 0x6F)
+    read(2, 1)
+    arrive(2, 0x70, 0x71)
+    state(2)
+    read(2, 12)
+    read(2, 1)
+    # "The item is fixed at arrival", also the held one
+    settings(2, damaged=MARK)
+    arrive(2, *range(0x61, 0x6D), 0xFF)
+    settings(2)
+    read(2, 12)
+    read(2, 1)
+    # "store nothing for value 2": the place stays free. XOFF takes it with value 1, and XON behind it is lost
+    settings(2, flow=2)
+    arrive(2, *range(0x61, 0x6D), XOFF)
+    state(2)
+    settings(2, flow=1)
+    arrive(2, XOFF)
+    state(2)
+    arrive(2, XON)
+    state(2)
+    # settings leave it, and reset drops it
+    settings(2, flow=1, threshold=12)
+    state(2)
+    reset(2)
+    state(2)
+    read(2, 12)
+
+
 def reads():
     # "Read n characters, n from 0 to 12: removes the oldest min(n, waiting) items"
     read(0, 0)
@@ -601,6 +671,10 @@ def reads():
     full(0)
     for n in (0, 1, 2, 4, 12):
         read(0, n)
+    full(0)
+    read(0, 11)
+    state(0)
+    read(0, 12)
     full(0)
     read(0, 12)
     state(0)
@@ -926,7 +1000,7 @@ SECTIONS = [
     ranges_of_settings, length_of_settings, crossed_settings, taking_settings,
     damaged_characters, damaged_specials, good_ff, line_endings, flow_characters, implied_xon,
     literal_next, between_mark_and_character, flags_at_a_full_queue, nothing_to_store_at_a_full_queue,
-    losses, many_losses, reads, loads,
+    losses, many_losses, thirteenth_character, held_item, reads, loads,
     stopped_and_held, newlines, owed_newlines, specials, specials_and_settings, special_refusals, one_reset_of_four,
     letter_case, refusal_1, no_frames, unknown_and_unlisted, long_lines, last_line,
 ]

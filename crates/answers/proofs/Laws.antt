@@ -149,7 +149,7 @@ handed-fits h n place buffer few =
     }
 
 -- the answers of a card of any size that the longest line is long enough for
-module _ (z : Size) (short : z .most ≤ cardSize .most) (shallow : z .depth < 256) where
+module _ (z : Size) (short : z .most ≤ cardSize .most) where
   pub small : (h : Channel Unit) → SoundChannel z h → (call : ChannelCall) → Small (channelStep z tt h call .answer) (channelStep z tt h call .lent)
   unfolding channelStep transmitDepth
   small h s (arrive kind b) = either Fits (ltb 3 kind) tt tt
@@ -159,5 +159,5 @@ module _ (z : Size) (short : z .most ≤ cardSize .most) (shallow : z .depth < 2
       either Fits (noRoom n place buffer) tt (handed-fits h n place buffer (omega arith)))
   small h s (takeSettings l) = settings-fit h l (badField (z .most) l)
   small h s reset = tt
-  small h s state = (omega (arith, s .waiting), omega (arith, s .sending))
+  small h s state = (omega arith, omega (arith, s .sending))
   small h s (transmit c) = transmit-fits (h .settings) (h .flags) (h .transmitter) c

@@ -14,4 +14,4 @@ use Rattle.answers.proofs.Laws.{small}
 pub fits : (c : Channel) (call : ChannelCall) (a : Answered) (lent : List ℕ) → Promise c call a lent → Sound c
     → Small (a .answer) lent
 unfolding given answered
-fits c call a lent p s = rw (p .gives, p .leaves) (small (sizeOf c) (omega arith) (omega arith) (channelIn c) (s .bounds) call)
+fits c call a lent p s = rw (p .gives, p .leaves) (small (sizeOf c) (omega arith) (channelIn c) (s .bounds) call)

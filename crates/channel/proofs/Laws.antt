@@ -3,7 +3,7 @@ use mathlib.Core.Bool.{not}
 use mathlib.Core.List.{List, [], _∷_, _++_, append-nil}
 use mathlib.Core.Option.{Option, none, some}
 use mathlib.Core.Path.{_≡_, refl, ap, ap₂, sym, _∙_}
-use Prim.Native.Nat.{ℕ, _+_, _-_, _*_, _≤_, _<_}
+use Prim.Native.Nat.{ℕ, _+_, _-_, _*_, _≤_, _<_, min}
 use native.Mathlib.Omega.{arith}
 use borrow.Author.Tests.{lt-ltb, le-ltb}
 use lib.Dec.{lit≤}
@@ -232,11 +232,11 @@ module _ (c : Channel) (s : Sound c) where
           keeps c s (takeSettings l) (settingsTaken (channelIn c) l none) (rw k) _
           (rw (same, ← queue-sound c s .is, ← transmitter-sound c s .is))
 
-  pub shows : Promise c state
-      (record { answer = Shown (c .queue .count) (c .transmitter .count) (not (c .flags .running)) (c .queue .losses); channel = c }) []
+  pub shows : (waiting : ℕ) → waiting ≡ min (c .queue .count) (sizeOf c .most) → Promise c state
+      (record { answer = Shown waiting (c .transmitter .count) (not (c .flags .running)) (c .queue .losses); channel = c }) []
   unfolding given answered channelStep channelIn queue.queueIn
-  shows =
+  shows waiting e =
       let counts = ap₂ (λ (w t : ℕ). Shown w t (not (c .flags .running)) (c .queue .losses))
-      (count-is (sizeOf c .depth) (sizeOf c .depth) (c .queue) (queue-sound c s))
+      (e ∙ ap (λ (w : ℕ). min w (sizeOf c .most)) (count-is (sizeOf c .depth) (sizeOf c .depth) (c .queue) (queue-sound c s)))
       (parts (c .transmitter) (transmitter-sound c s) .count) in
       keeps c s state (given c state) refl _ (ap₂ (λ (a : Answer) (x : Channel). record { answer = a; channel = x }) counts (s .is))

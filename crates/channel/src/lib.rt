@@ -15,7 +15,8 @@ use paper::Settings;
 use queue::Queue;
 use transmitter::Transmitter;
 
-// "Each has settings, a receive queue of 12 items, a transmit queue of 12 bytes, and small flags."
+// "Each has settings, a receive queue of 12 items, a transmit queue of 12 bytes, and small flags." 02 a: "One more place is to hold an item behind the
+// twelve".
 #[repr(C)]
 pub struct Channel {
     pub queue: Queue,
@@ -33,7 +34,7 @@ pub struct Answered {
 impl Channel {
     pub const DEPTH: usize = Queue::DEPTH;
 
-    // The most that a read asks for and a threshold names.
+    // The most that a read asks for, a threshold names and a state shows.
     pub const MOST: u8 = paper::MOST;
 
     // "1, 1, 0, 0, 0, 0, 0, 1, 0, 0, then hex 11 13 00 00 16"
@@ -168,13 +169,14 @@ impl Channel {
         }
     }
 
-    // "State: waiting items, bytes in the transmit queue ..., stopped (1) or running (0), loss count." The channel stays as it is.
+    // "State: waiting items, bytes in the transmit queue ..., stopped (1) or running (0), loss count." 02 a: "State still shows at most 12 waiting".
+    // The channel stays as it is.
     pub fn state(self) -> Answer
         requires { ⌜ Sound self ⌝ }
         ensures { λ r. ⌜ Promise self calls.state (record { answer = r; channel = self }) [] ⌝ }
     {
         Answer::Shown(
-            self.queue.count,
+            arrays::least(self.queue.count, Channel::MOST as usize),
             self.transmitter.count,
             !self.flags.running,
             self.queue.losses,

@@ -83,7 +83,7 @@ pub data Deed {A : Type 0} (z : Size) (a : A) (h : Channel A) : ChannelCall → 
   reading : (n place : ℕ) (buffer : List ℕ) → place ≤ length buffer → Deed z a h (read n place buffer) (handedOver h n place buffer)
   change : (l : List ℕ) → badField (z .most) l ≡ none → Deed z a h (takeSettings l) (settingsTaken h l none)
   renewal : Deed z a h reset (given Done fresh [])
-  showing : Deed z a h state (given (shown h) h [])
+  showing : Deed z a h state (given (shown (z .most) h) h [])
   sending : {c : TransmitCall} {g : Given Transmitter} → TransmitDeed (h .transmitter) c g
       → Deed z a h (transmit c) (given (g .answer) (withTransmitter (g .next) h) (g .lent))
 

@@ -26,9 +26,9 @@ module _ {A : Type 0} (z : Size) (a : A) (K : Card A) (n : ℕ) where
       chosen (Tells w) (ltb (z .most) count) (λ many e. absurd (true≢false e)) λ few.
       chosen (Tells w) (noRoom count place buffer) (λ short e. absurd (true≢false e)) λ room e. (refl, refl)
 
-  state-tells : Tells (given (shown (at K n)) K []) (step z a K (on n state))
+  state-tells : Tells (given (shown (z .most) (at K n)) K []) (step z a K (on n state))
   unfolding channelStep
-  state-tells = by-number z a K (Tells (given (shown (at K n)) K [])) n state (λ above e. absurd (true≢false e)) (λ small e. (refl, refl))
+  state-tells = by-number z a K (Tells (given (shown (z .most) (at K n)) K [])) n state (λ above e. absurd (true≢false e)) (λ small e. (refl, refl))
 
 pub told-counts : ToldCounts
 told-counts = record { read = λ A z a K n. read-tells z a K n; state = λ A z a K n e. state-tells z a K n e .0 }

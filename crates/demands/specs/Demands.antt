@@ -4,8 +4,8 @@ use mathlib.Core.Bool.{true, false, not}
 use mathlib.Core.Logic.{_⊎_, _≢_}
 use mathlib.Core.List.{List, [], _∷_, _++_, map}
 use Prim.Native.Nat.{ℕ, _≤_, _<_, min}
-use lib.ListN.{length, getD, take}
-use Rattle.paper.specs.Settings.{Size}
+use lib.ListN.{length, getD, take, replicate}
+use Rattle.paper.specs.Settings.{Size, cardSize}
 use Rattle.paper.specs.Queue.{oldest, itemsOf, overruns}
 use Rattle.paper.specs.Stream.{Character, images, sort, byte, front, Decoded, decode, cleanFront}
 use Rattle.paper.specs.Channel.{Channel, ChannelCall, arrive, read, state, lent, written}
@@ -18,9 +18,9 @@ use Rattle.paper.specs.declared.Reading.the-variants.{Items, Unread}
 use Rattle.paper.specs.declared.Fate.the-variants.{Stored, Lost}
 use Rattle.paper.specs.declared.Answer.the-variants.{Handed, Shown, Picked}
 use Rattle.demands.specs.Text.{text}
-use Rattle.demands.specs.Examples.{Ranges, Crossed, Table, Endings, LossStays, ReadCases, ReaderCases, WholeCase, TransmitCase, QueueCase}
+use Rattle.demands.specs.Examples.{Ranges, Crossed, Table, Endings, LossStays, ReadCases, ReaderCases, WholeCase, TransmitCase, QueueCase, HeldCase}
 use Rattle.demands.specs.Marks.{characterOf, stream, Accepts}
-use Rattle.demands.specs.History.{isRefused, Entry, port, events, Marking, queueHistory, sinceReset, NoReset, handed, bytesFound, stored, lost, between, befores, numbered, Each, NoWorse, NoPick}
+use Rattle.demands.specs.History.{isRefused, Entry, port, events, Marking, queueHistory, sinceReset, NoReset, handed, bytesFound, stored, lost, between, Before, befores, numbered, Each, NoWorse, NoPick}
 use Rattle.demands.specs.Conditions.{conditions, FirstDue}
 use Rattle.demands.specs.Spelling.{Calls}
 
@@ -116,7 +116,7 @@ LossCount =
     (A : Type 0) (z : Size) (n : ℕ) → n < 4 → (cs : List (Named A Call))
     → after z n cs .queue .losses ≡ min (lost (sinceReset (queueHistory (history z n cs)))) 65535
 
--- a read tells of what it hands over and a state of what there is: no count is made up
+-- a read tells of what it hands over and a state of what there is, "at most 12 waiting" (02 a): no count is made up
 pub record ToldCounts : Type 1 where
   pub read : (A : Type 0) (z : Size) (a : A) (K : Card A) (n count place : ℕ) (buffer : List ℕ)
       → let g = step z a K (on n (read count place buffer)) in
@@ -126,7 +126,7 @@ pub record ToldCounts : Type 1 where
   pub state : (A : Type 0) (z : Size) (a : A) (K : Card A) (n : ℕ)
       → let h = at K n in
       isRefused (step z a K (on n state) .answer) ≡ false
-      → step z a K (on n state) .answer ≡ Shown (length (h .queue .slots)) (length (h .transmitter .bytes)) (not (h .flags .running)) (h .queue .losses)
+      → step z a K (on n state) .answer ≡ Shown (min (length (h .queue .slots)) (z .most)) (length (h .transmitter .bytes)) (not (h .flags .running)) (h .queue .losses)
 
 -- DEMAND 3
 
@@ -143,16 +143,16 @@ ReadingMore =
     → Each _≤_ (between (queueHistory first)) (between (queueHistory second))
     → Each NoWorse (befores [] (queueHistory first)) (befores [] (queueHistory second))
 
--- it says something: a queue of one item loses the second arrival to a host that reads nothing, and not to one that reads between the two
-abbrev pub one : Size
-one = record { depth = 1; most = 1 }
-
+-- it says something, "read with thirteen" (02 a): the card's queue loses the fourteenth arrival to a host that reads nothing, and not to one that
+-- reads a character before it
 abbrev pub TwoHosts : Type 0
 TwoHosts =
-    (befores [] (queueHistory (history one 0 (numbered 0 0 (on 0 (arrive 0 65) ∷ on 0 (arrive 0 66) ∷ []))))
-    ≡ record { has = []; fate = Stored } ∷ record { has = []; fate = Lost } ∷ [])
-    × (befores [] (queueHistory (history one 0 (numbered 0 0 (on 0 (arrive 0 65) ∷ on 0 (read 1 0 (0 ∷ 0 ∷ 0 ∷ [])) ∷ on 0 (arrive 0 66) ∷ []))))
-    ≡ record { has = []; fate = Stored } ∷ record { has = 0 ∷ []; fate = Stored } ∷ [])
+    let thirteen = replicate 13 (on 0 (arrive 0 65)) in
+    let accepted : List (Before ℕ) = replicate 13 (record { has = []; fate = Stored }) in
+    (befores [] (queueHistory (history cardSize 0 (numbered 0 0 (thirteen ++ on 0 (arrive 0 66) ∷ []))))
+    ≡ accepted ++ record { has = []; fate = Lost } ∷ [])
+    × (befores [] (queueHistory (history cardSize 0 (numbered 0 0 (thirteen ++ on 0 (read 1 0 (0 ∷ 0 ∷ 0 ∷ [])) ∷ on 0 (arrive 0 66) ∷ []))))
+    ≡ accepted ++ record { has = 0 ∷ []; fate = Stored } ∷ [])
 
 -- names, and so the numbering, change no answer and no lent byte: nothing that a caller sees
 abbrev pub NamesUnseen : Type 1
@@ -197,6 +197,7 @@ pub record Demands : Type 1 where
   pub whole-case : WholeCase
   pub transmit-case : TransmitCase
   pub queue-case : QueueCase
+  pub held-case : HeldCase
   pub refusals : Refusals
   pub lines : Lines
   pub bounds : Bounds

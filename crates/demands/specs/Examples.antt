@@ -286,9 +286,10 @@ TransmitCase =
     ∷ "0A00" ⇒ "00000C000000"
     ∷ [])
 
--- A full queue, and picks, worked out by hand: with marking, a damaged character and eleven good ones wait, so a further one is lost, and so is
--- XOFF, which stops the transmitter all the same; a read of eleven finds no flag, and the next finds it on the newest; channels 1 and 2 are picked
--- in turn, then 1 again; read empty, there is none to pick, and the place stays, so that 2 is named before 0; a reset clears the loss count
+-- A full queue, and picks, worked out by hand: with marking, a damaged character and twelve good ones wait, so a further one is lost, and so is
+-- XOFF, which stops the transmitter all the same; a read of one makes room for one and not for two; a read of twelve finds one flag, that of the
+-- newest when XOFF came, and the next finds one on the newest of all; channels 1 and 2 are picked in turn, then 1 again; read empty, there is none to
+-- pick, and the place stays, so that 2 is named before 0; a reset clears the loss count
 abbrev pub QueueCase : Type 0
 QueueCase =
     Answered
@@ -305,12 +306,16 @@ QueueCase =
     ∷ "0100004A" ⇒ "0000"
     ∷ "0100004B" ⇒ "0000"
     ∷ "0100004C" ⇒ "0000"
-    ∷ "0100004D" ⇒ "0002"
+    ∷ "0100004D" ⇒ "0000"
+    ∷ "0100004E" ⇒ "0002"
     ∷ "01000013" ⇒ "0002"
     ∷ "0A00" ⇒ "000C00010002"
-    ∷ "02000B" ⇒ "000B00FF004142434445464748494A4B"
-    ∷ "020001" ⇒ "0001014C"
-    ∷ "0A00" ⇒ "000000010002"
+    ∷ "020001" ⇒ "000100FF0041"
+    ∷ "0100004F" ⇒ "0000"
+    ∷ "01000050" ⇒ "0002"
+    ∷ "02000C" ⇒ "000C0142434445464748494A4B4C4D"
+    ∷ "020001" ⇒ "0001014F"
+    ∷ "0A00" ⇒ "000000010003"
     ∷ "01010041" ⇒ "0000"
     ∷ "01020041" ⇒ "0000"
     ∷ "08" ⇒ "0001"
@@ -324,4 +329,49 @@ QueueCase =
     ∷ "08" ⇒ "0002"
     ∷ "0900" ⇒ "00"
     ∷ "0A00" ⇒ "000000000000"
+    ∷ [])
+
+-- 02 a, "Thirteenth character", worked out by hand. Channel 0, which nobody reads: the state shows 12 with twelve there, and with one held behind
+-- them; the fourteenth is lost, and it still shows 12; a read of thirteen is refused; a read of twelve finds no flag and leaves one, the held
+-- one, which has moved up and has the flag. Channel 1: a line of thirteen characters, STX 0007 001200 ETX, loses nothing in two reads
+abbrev pub HeldCase : Type 0
+HeldCase =
+    Answered
+    ("01000041" ⇒ "0000"
+    ∷ "01000042" ⇒ "0000"
+    ∷ "01000043" ⇒ "0000"
+    ∷ "01000044" ⇒ "0000"
+    ∷ "01000045" ⇒ "0000"
+    ∷ "01000046" ⇒ "0000"
+    ∷ "01000047" ⇒ "0000"
+    ∷ "01000048" ⇒ "0000"
+    ∷ "01000049" ⇒ "0000"
+    ∷ "0100004A" ⇒ "0000"
+    ∷ "0100004B" ⇒ "0000"
+    ∷ "0100004C" ⇒ "0000"
+    ∷ "0A00" ⇒ "000C00000000"
+    ∷ "0100004D" ⇒ "0000"
+    ∷ "0A00" ⇒ "000C00000000"
+    ∷ "0100004E" ⇒ "0002"
+    ∷ "0A00" ⇒ "000C00000001"
+    ∷ "02000D" ⇒ "03"
+    ∷ "02000C" ⇒ "000C004142434445464748494A4B4C"
+    ∷ "0A00" ⇒ "000100000001"
+    ∷ "02000C" ⇒ "0001014D"
+    ∷ "01010002" ⇒ "0000"
+    ∷ "01010030" ⇒ "0000"
+    ∷ "01010030" ⇒ "0000"
+    ∷ "01010030" ⇒ "0000"
+    ∷ "01010037" ⇒ "0000"
+    ∷ "01010020" ⇒ "0000"
+    ∷ "01010030" ⇒ "0000"
+    ∷ "01010030" ⇒ "0000"
+    ∷ "01010031" ⇒ "0000"
+    ∷ "01010032" ⇒ "0000"
+    ∷ "01010030" ⇒ "0000"
+    ∷ "01010030" ⇒ "0000"
+    ∷ "01010003" ⇒ "0000"
+    ∷ "02010C" ⇒ "000C00023030303720303031323030"
+    ∷ "02010C" ⇒ "00010003"
+    ∷ "0A01" ⇒ "000000000000"
     ∷ [])

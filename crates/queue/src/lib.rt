@@ -81,7 +81,8 @@ impl Queue {
         self
     }
 
-    // "the new one is lost, the newest waiting item gets the overrun flag ... and the loss count rises by 1, staying at 65,535"
+    // "the new one is lost, the newest waiting item gets the overrun flag ... and the loss count rises by 1, staying at 65,535"; 02 a: "the flag goes
+    // on the newest item, which is the held one"
     fn overrun(mut self) -> Queue
         requires { ⌜ (Sound self) × (0 < self .count) ⌝ }
         ensures { λ r. ⌜ r ≡ queueOf places (model.overrun (queueIn self)) ⌝ }
@@ -95,7 +96,7 @@ impl Queue {
         self
     }
 
-    // "If 12 items wait, the new one is lost"
+    // "If 12 items wait, the new one is lost"; 02 a: "A loss now happens at thirteen"
     fn place_item(self, item: Item) -> Placed
         requires { ⌜ Sound self ⌝ }
         ensures { λ r. ⌜ r ≡ placing places depth self (Ruling.Store item) ⌝ }
@@ -126,7 +127,7 @@ impl Queue {
         }
     }
 
-    // The oldest n leave.
+    // The oldest n leave; what was held "moves up when a read makes room" (02 a).
     fn remove(self, n: usize) -> Queue
         requires { ⌜ (Sound self) × (n ≤ self .count) ⌝ }
         ensures { λ r. ⌜ r ≡ queueOf places (model.removed n (queueIn self)) ⌝ }

@@ -26,7 +26,8 @@ fn told(answer: &[u8], card: &Card) -> String {
 }
 
 fn channel(channel: &Channel) -> String {
-    let receive_queue = channel.receive_queue.iter().map(item);
+    // Twelve at most, and behind them the one that request a holds.
+    let receive_queue = channel.items().map(item);
     object(&[
         ("settings", list(settings(&channel.settings))),
         ("receive_queue", list(receive_queue)),

@@ -7,7 +7,19 @@ pub const CHANNELS: usize = 4;
 
 /// "Each has settings, a receive queue of 12 items, a transmit queue of
 /// 12 bytes, and small flags."
-pub const QUEUE_DEPTH: usize = 12;
+///
+/// Request a leaves the host with these twelve: "State still shows at most 12
+/// waiting; a read asks for at most 12." Nor does it alter field 8, "service
+/// threshold", "1 to 12".
+pub const RECEIVE_QUEUE_DEPTH: usize = 12;
+
+/// Request a: "One more place is to hold an item behind the twelve"; "A loss
+/// now happens at thirteen".
+pub const MOST_ITEMS: usize = RECEIVE_QUEUE_DEPTH + 1;
+
+/// "a transmit queue of 12 bytes": a number of its own, which request a
+/// doesn't alter.
+pub const TRANSMIT_QUEUE_DEPTH: usize = 12;
 
 /// "Line endings (CR 0D, NL 0A)"
 pub const CR: u8 = 0x0D;
@@ -229,7 +241,7 @@ impl Item {
     }
 }
 
-/// An item in the receive queue beside its overrun flag.
+/// An item in the receive queue or behind it, beside its overrun flag.
 #[derive(Clone, Debug, PartialEq, Eq)]
 pub struct WaitingItem {
     pub item: Item,
@@ -241,6 +253,9 @@ pub struct Channel {
     pub settings: Settings,
     /// The oldest item stands at the front.
     pub receive_queue: VecDeque<WaitingItem>,
+    /// Request a: "One more place is to hold an item behind the twelve". It
+    /// has an item only while the queue is full.
+    pub held_item: Option<WaitingItem>,
     /// The head of the queue stands at the front.
     pub transmit_queue: VecDeque<u8>,
     pub literal_mark: bool,
@@ -301,7 +316,8 @@ pub struct ReadAnswer {
 }
 
 /// "State: waiting items, bytes in the transmit queue (an owed NL or a
-/// special doesn't count), stopped (1) or running (0), loss count."
+/// special doesn't count), stopped (1) or running (0), loss count." Request a:
+/// "State still shows at most 12 waiting".
 #[derive(Clone, Copy, Debug, PartialEq, Eq)]
 pub struct StateAnswer {
     pub waiting: usize,
@@ -332,6 +348,7 @@ impl Channel {
             settings: Settings::from_bytes(&FRESH_SETTINGS)
                 .expect("the fresh settings of the paper are good"),
             receive_queue: VecDeque::new(),
+            held_item: None,
             transmit_queue: VecDeque::new(),
             literal_mark: false,
             stopped: false,
@@ -342,9 +359,15 @@ impl Channel {
         }
     }
 
+    /// All items that are there, in the order in which reads hand them over:
+    /// request a's held item comes last.
+    pub fn items(&self) -> impl Iterator<Item = &WaitingItem> {
+        self.receive_queue.iter().chain(&self.held_item)
+    }
+
     /// "Taking settings clears the literal mark and sets the transmitter
     /// running. Queues, an owed NL, a waiting special, CTS and the loss count
-    /// stay."
+    /// stay." So does the item that request a holds behind the queue.
     fn take_settings(&mut self, settings: Settings) {
         self.settings = settings;
         self.literal_mark = false;
@@ -479,17 +502,24 @@ impl Channel {
     /// "If 12 items wait, the new one is lost, the newest waiting item gets
     /// the overrun flag (data sheets: the flag sits on the last good
     /// character) and the loss count rises by 1, staying at 65,535."
+    ///
+    /// Request a makes these 12 thirteen: "One more place is to hold an item
+    /// behind the twelve"; "A loss now happens at thirteen, and the flag goes
+    /// on the newest item, which is the held one."
     fn store_item(&mut self, item: Item) -> Fate {
-        if self.receive_queue.len() < QUEUE_DEPTH {
-            self.receive_queue.push_back(WaitingItem {
-                item,
-                overrun: false,
-            });
+        let arrived = WaitingItem {
+            item,
+            overrun: false,
+        };
+        if self.receive_queue.len() < RECEIVE_QUEUE_DEPTH {
+            self.receive_queue.push_back(arrived);
             return Fate::Stored;
         }
-        if let Some(newest) = self.receive_queue.back_mut() {
-            newest.overrun = true;
-        }
+        let Some(newest) = &mut self.held_item else {
+            self.held_item = Some(arrived);
+            return Fate::Stored;
+        };
+        newest.overrun = true;
         self.loss_count = self.loss_count.saturating_add(1);
         Fate::Lost
     }
@@ -503,6 +533,9 @@ impl Channel {
     /// on. Answers the characters removed, how many had the overrun flag, and
     /// the bytes written. Everything before the place and after the last
     /// written byte stays."
+    ///
+    /// Request a's thirteenth item is beyond any one read, for "a read asks
+    /// for at most 12".
     fn read(&mut self, n: usize, buffer: &mut [u8], place: usize) -> ReadAnswer {
         let characters = n.min(self.receive_queue.len());
         let mut flagged = 0;
@@ -516,6 +549,11 @@ impl Channel {
                 bytes += 1;
             }
         }
+        // Request a: "it moves up when a read makes room". A read that removes
+        // nothing makes none.
+        if characters > 0 {
+            self.receive_queue.extend(self.held_item.take());
+        }
         ReadAnswer {
             characters,
             flagged,
@@ -526,7 +564,7 @@ impl Channel {
     /// "Load: takes the first min(length, room) bytes; answers that number.
     /// Load of nothing takes 0."
     fn load(&mut self, bytes: &[u8]) -> usize {
-        let room = QUEUE_DEPTH - self.transmit_queue.len();
+        let room = TRANSMIT_QUEUE_DEPTH - self.transmit_queue.len();
         let taken = bytes.len().min(room);
         for byte in &bytes[..taken] {
             self.transmit_queue.push_back(*byte);
@@ -576,13 +614,15 @@ impl Channel {
         Ok(())
     }
 
-    /// "whose waiting items reach its threshold"
+    /// "whose waiting items reach its threshold". No threshold is above 12, so
+    /// that request a's held item makes no difference here.
     fn reaches_its_threshold(&self) -> bool {
         self.receive_queue.len() >= self.settings.service_threshold
     }
 
     /// "State: waiting items, bytes in the transmit queue (an owed NL or a
-    /// special doesn't count), stopped (1) or running (0), loss count."
+    /// special doesn't count), stopped (1) or running (0), loss count." Request
+    /// a: "State still shows at most 12 waiting", so the held item isn't shown.
     fn state(&self) -> StateAnswer {
         StateAnswer {
             waiting: self.receive_queue.len(),
@@ -629,7 +669,8 @@ impl Card {
     }
 
     /// Refusals 1, 3 and 4. "Read 12 into 36 bytes is served, into 35 refused
-    /// (4); read 0 at the very end of a buffer is served."
+    /// (4); read 0 at the very end of a buffer is served." Request a keeps
+    /// refusal 3: "a read asks for at most 12".
     pub fn read(
         &mut self,
         channel: u8,
@@ -638,7 +679,7 @@ impl Card {
         place: usize,
     ) -> Result<ReadAnswer, Refusal> {
         let channel = self.channel(channel)?;
-        if n > QUEUE_DEPTH {
+        if n > RECEIVE_QUEUE_DEPTH {
             return Err(Refusal::Asked);
         }
         if place > buffer.len() {

@@ -27,15 +27,15 @@ fn each_part_of_a_channel() {
     let settings = "0701040000070100010501012122232425";
     let queued = ["03010A41", "050101", "0401"];
     let arrived = ["01010141", "010100FF", "01010022"];
-    // With these twelve wait; the next one is lost, and so is the
-    // literal-next character behind it.
-    let more = ["01010242"; 10];
+    // With ten of these thirteen are there; the next one is lost, and so is
+    // the literal-next character behind it.
+    let more = ["01010242"; 11];
     let last = ["01010025", "060103", "08"];
     let trace = [&[settings], &queued[..], &arrived, &more, &last].concat();
     let channel = [
         r#"{"settings":[4,0,0,7,1,0,1,5,1,1,33,34,35,36,37],"#,
         r#""receive_queue":[["damaged",65,false],["doubled",255,false],["plain",34,false],"#,
-        &r#"["damaged",66,false],"#.repeat(8),
+        &r#"["damaged",66,false],"#.repeat(9),
         r#"["damaged",66,true]],"transmit_queue":[65],"literal_mark":true,"stopped":true,"#,
         r#""owed_nl":true,"waiting_special":35,"cts":1,"loss_count":2}"#,
     ];

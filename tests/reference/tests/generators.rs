@@ -1,9 +1,12 @@
 //! The generators give the same output for the same seed, as many lines as
 //! asked, and input that the programs answer line by line.
 
-use reference::frames::program;
-use reference::generate::{reads, streams, trace, PROFILES};
-use reference::reads::{program as reads_program, Call};
+use reference::card::Card;
+use reference::fields::bytes_of_field;
+use reference::frames::{answer_line, lines, program};
+use reference::generate::{reads, streams, trace, Profile, PROFILES};
+use reference::reads::{program as reads_program, Call, CHANNEL};
+use std::collections::BTreeMap;
 
 fn newlines(bytes: &[u8]) -> usize {
     bytes.iter().filter(|byte| **byte == 0x0A).count()
@@ -18,6 +21,98 @@ fn traces_have_the_lines_asked_for() {
             let without_newline = usize::from(input.last() != Some(&0x0A));
             assert_eq!(newlines(&input) + without_newline, 300, "{name}");
             assert_eq!(newlines(&program(&input)), 300, "{name}");
+        }
+    }
+}
+
+fn items(card: &Card, channel: u8) -> usize {
+    card.channels[usize::from(channel)].items().count()
+}
+
+/// What a frame met: the call, how many items were there before it, and what
+/// was asked and answered.
+fn met(before: &Card, frame: &[u8], answer: &[u8]) -> String {
+    let [call, channel @ 0..=3, ..] = *frame else {
+        return "no channel".to_string();
+    };
+    let there = items(before, channel);
+    match (frame, answer) {
+        ([0x01, _, _, _], [0, fate]) => format!("arrival, {there} there: fate {fate}"),
+        ([0x02, _, n], [number, ..]) => format!("read {n}, {there} there: {number}"),
+        (_, [number, ..]) => format!("frame {call:02X}, {there} there: {number}"),
+        (_, []) => unreachable!("an answer has its first byte"),
+    }
+}
+
+/// How often each thing was met by traces of these profiles.
+fn tally(profiles: &[Profile]) -> BTreeMap<String, usize> {
+    let mut tally = BTreeMap::new();
+    for profile in profiles {
+        let mut card = Card::fresh();
+        for line in lines(&trace(*profile, 1, 20_000)) {
+            let before = card.clone();
+            let answer = answer_line(&mut card, line);
+            let digits = String::from_utf8_lossy(line).to_ascii_uppercase();
+            let frame = bytes_of_field(&digits).unwrap_or_default();
+            *tally.entry(met(&before, &frame, &answer)).or_default() += 1;
+        }
+    }
+    tally
+}
+
+/// One below full, full and beyond: "A loss now happens at thirteen" in
+/// request a.
+#[test]
+fn traces_come_to_thirteen_items() {
+    let tally = tally(&[Profile::Full, Profile::Mixed, Profile::Picks]);
+    let count = |name: String| tally.get(&name).copied().unwrap_or(0);
+    for there in 11..=13 {
+        for (frame, often) in [("0A", 50), ("07", 20), ("09", 4)] {
+            let name = format!("frame {frame}, {there} there: 0");
+            assert!(count(name.clone()) > often, "{name}");
+        }
+        for n in [0, 1, 12] {
+            let name = format!("read {n}, {there} there: 0");
+            assert!(count(name.clone()) > 5, "{name}");
+        }
+    }
+    assert!(count("read 13, 13 there: 3".to_string()) > 5);
+    let arrived = |there: usize, fate: u8| count(format!("arrival, {there} there: fate {fate}"));
+    assert!(arrived(12, 0) > 500 && arrived(12, 1) > 20);
+    assert!(arrived(13, 2) > 5000 && arrived(13, 1) > 100);
+    assert_eq!((arrived(12, 2), arrived(13, 0)), (0, 0));
+}
+
+/// "service threshold", "1 to 12": one below it, at it, and with request a's
+/// thirteenth item.
+#[test]
+fn picks_come_to_threshold_12() {
+    let mut card = Card::fresh();
+    let mut picks = [0; 14];
+    for line in lines(&trace(Profile::Picks, 1, 20_000)) {
+        for channel in &card.channels {
+            if line == b"08" && channel.settings.service_threshold == 12 {
+                picks[channel.items().count()] += 1;
+            }
+        }
+        answer_line(&mut card, line);
+    }
+    assert!(picks[11..].iter().all(|number| *number > 50), "{picks:?}");
+}
+
+/// Request a: "One more place is to hold an item behind the twelve; it moves
+/// up when a read makes room." So nothing is held where there is room.
+#[test]
+fn an_item_is_held_only_behind_twelve() {
+    for (name, profile) in PROFILES {
+        let mut card = Card::fresh();
+        for line in lines(&trace(profile, 2, 3000)) {
+            answer_line(&mut card, line);
+            for channel in &card.channels {
+                let waiting = channel.receive_queue.len();
+                let held = channel.held_item.is_some();
+                assert!(waiting == 12 || waiting < 12 && !held, "{name}");
+            }
         }
     }
 }
@@ -114,4 +209,29 @@ fn traces_of_reads_dwell_on_the_limits() {
     assert!(count(&|n, length, place, _| n > 12 && length >= place + 3 * n) > 20);
     assert!(count(&|_, _, _, answer| answer.starts_with("00 12 12 ")) > 5);
     assert!(count(&|_, _, _, answer| answer.starts_with("00 12 1 36 ")) > 5);
+}
+
+/// Each read with the number of items that were there.
+#[test]
+fn traces_of_reads_come_to_thirteen_items() {
+    let mut card = Card::fresh();
+    let mut asked_of = Vec::new();
+    for line in lines_of_reads(1, 20_000) {
+        let call = Call::of_line(line.as_bytes()).expect("a well-formed line");
+        let there = items(&card, CHANNEL);
+        let answer = call.answer(&mut card);
+        if let Call::Read { n, .. } = call {
+            asked_of.push((n, there, answer.starts_with(b"00")));
+        }
+    }
+    let count = |wanted| asked_of.iter().filter(|read| **read == wanted).count();
+    for there in [12, 13] {
+        for n in [0, 1, 11, 12] {
+            assert!(count((n, there, true)) > 5, "{n} of {there}");
+        }
+        assert!(count((12, there, true)) > 100, "12 of {there}");
+        assert!(count((12, there, false)) > 50, "12 of {there}, refused");
+        assert!(count((13, there, false)) > 10, "13 of {there}, refused");
+        assert_eq!(count((13, there, true)), 0);
+    }
 }

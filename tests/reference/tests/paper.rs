@@ -80,8 +80,9 @@ fn state(card: &mut Card) -> StateAnswer {
     card.state(0).expect("a served state")
 }
 
+/// Request a: "A loss now happens at thirteen".
 fn fill(card: &mut Card) {
-    for byte in 0..12 {
+    for byte in 0..13 {
         assert_eq!(card.arrival(0, 0, 0x60 + byte), Ok(Fate::Stored));
     }
 }
@@ -178,6 +179,13 @@ fn refusal_examples_of_reads() {
     assert_eq!(card.read(0, 12, &mut buffer, 4), Ok(twelve));
     assert_eq!(buffer[..4], [0xA5; 4]);
     assert_eq!(buffer[16..], [0xA5; 24]);
+    // Request a's thirteenth is left, and then nothing is.
+    let one = ReadAnswer {
+        characters: 1,
+        flagged: 0,
+        bytes: 1,
+    };
+    assert_eq!(card.read(0, 12, &mut buffer[..36], 0), Ok(one));
     assert_eq!(card.read(0, 12, &mut buffer[..36], 0), Ok(nothing));
 }
 
@@ -241,11 +249,11 @@ fn losses_and_flags() {
     }
     assert_eq!(state(&mut card).loss_count, 65_535);
     let mut buffer = [0; 36];
-    let answer = card.read(0, 11, &mut buffer, 0).unwrap();
-    assert_eq!((answer.characters, answer.flagged), (11, 0));
+    let answer = card.read(0, 12, &mut buffer, 0).unwrap();
+    assert_eq!((answer.characters, answer.flagged), (12, 0));
     let answer = card.read(0, 12, &mut buffer, 0).unwrap();
     assert_eq!((answer.characters, answer.flagged), (1, 1));
-    assert_eq!(buffer[0], 0x6B);
+    assert_eq!(buffer[0], 0x6C);
 }
 
 #[test]

@@ -27,13 +27,18 @@ fn answers_after(first: &[&str], later: &[&str]) -> Vec<String> {
 }
 
 /// Twelve arrivals of "damaged 41", whose images take 36 bytes.
-fn full_of_damaged() -> Vec<&'static str> {
+fn twelve_damaged() -> Vec<&'static str> {
     [vec![MARK], vec!["A 01 41"; 12]].concat()
 }
 
 /// Twelve arrivals of "good 41", whose images take 12 bytes.
-fn full_of_plain() -> Vec<&'static str> {
+fn twelve_plain() -> Vec<&'static str> {
     [vec![MARK], vec!["A 00 41"; 12]].concat()
+}
+
+/// One more. Request a: "A loss now happens at thirteen".
+fn full_of_plain() -> Vec<&'static str> {
+    [twelve_plain(), vec!["A 00 41"]].concat()
 }
 
 /// Bytes of a buffer that stayed as they were lent.
@@ -46,7 +51,7 @@ fn stayed(number: usize) -> String {
 fn read_12_into_36_bytes_is_served_into_35_refused() {
     let reads = ["R 12 35 0", "R 12 36 0", "R 12 36 0"];
     assert_eq!(
-        answers_after(&full_of_damaged(), &reads),
+        answers_after(&twelve_damaged(), &reads),
         [
             format!("04 {}", stayed(35)),
             format!("00 12 0 36 {}", "FF0041".repeat(12)),
@@ -55,7 +60,7 @@ fn read_12_into_36_bytes_is_served_into_35_refused() {
     );
     // "fewer than 3n bytes": the images that wait would fit, but don't count.
     assert_eq!(
-        answers_after(&full_of_plain(), &reads[..2]),
+        answers_after(&twelve_plain(), &reads[..2]),
         [
             format!("04 {}", stayed(35)),
             format!("00 12 0 12 {}{}", "41".repeat(12), stayed(24)),
@@ -78,7 +83,7 @@ fn room_is_counted_from_the_place() {
         let enough = format!("R 12 {} {place}", place + 36);
         let more = format!("R 0 {} {place}", place + 37);
         assert_eq!(
-            answers_after(&full_of_damaged(), &[&short, &enough, &more]),
+            answers_after(&twelve_damaged(), &[&short, &enough, &more]),
             [
                 format!("04 {}", stayed(place + 35)),
                 format!("00 12 0 36 {}{}", stayed(place), "FF0041".repeat(12)),
@@ -205,10 +210,16 @@ fn a_refused_read_removes_nothing() {
     full.push("A 00 42");
     let refused = ["R 12 35 0", "R 13 48 0", "R 0 3 4", "R 12 48 13", "R 1 2 0"];
     let first = [&full[..], &refused].concat();
-    let served = answers_after(&first, &["R 12 36 0"]);
-    assert_eq!(served, answers_after(&full, &["R 12 36 0"]));
-    let buffer = ["41".repeat(12), stayed(24)].concat();
-    assert_eq!(served, [format!("00 12 1 12 {buffer}")]);
+    let reads = ["R 12 36 0", "R 12 36 0"];
+    let served = answers_after(&first, &reads);
+    assert_eq!(served, answers_after(&full, &reads));
+    assert_eq!(
+        served,
+        [
+            format!("00 12 0 12 {}{}", "41".repeat(12), stayed(24)),
+            format!("00 1 1 1 41{}", stayed(35)),
+        ]
+    );
 }
 
 /// "how many had the overrun flag"; "the newest waiting item gets the overrun
@@ -219,9 +230,9 @@ fn flags_are_counted_with_the_characters_removed() {
     first.extend([
         "A 00 42", "A 00 42", "R 2 6 0", "A 00 43", "A 00 44", "A 00 45",
     ]);
-    let reads = ["R 9 27 0", "R 1 3 0", "R 1 3 0", "R 1 3 0", "R 1 3 0"];
+    let reads = ["R 10 30 0", "R 1 3 0", "R 1 3 0", "R 1 3 0", "R 1 3 0"];
     let answers = answers_after(&first, &reads);
-    assert!(answers[0].starts_with("00 9 0 9 41"));
+    assert!(answers[0].starts_with("00 10 0 10 41"));
     assert_eq!(
         answers[1..],
         [

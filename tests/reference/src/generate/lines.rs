@@ -19,7 +19,7 @@ impl Generator {
         match self.random.below(8) {
             0 | 1 => self.frame_with_bad_channel(),
             2 => arrival_frame(channel, self.byte_above(3), 0x41),
-            3 => read_frame(channel, self.byte_above(12)),
+            3 => read_frame(channel, self.byte_above(RECEIVE_QUEUE_DEPTH as u8)),
             4 => {
                 let settings = self.bad_settings();
                 settings_frame(channel, &settings)

@@ -11,7 +11,7 @@ mod settings;
 mod single;
 pub mod streams;
 
-use crate::card::{Card, Channel};
+use crate::card::{Card, Channel, MOST_ITEMS, RECEIVE_QUEUE_DEPTH, TRANSMIT_QUEUE_DEPTH};
 use crate::frames;
 use crate::random::Random;
 use std::collections::VecDeque;
@@ -211,6 +211,11 @@ fn good_arrival_frame(channel: u8, byte: u8) -> Vec<u8> {
 
 fn read_frame(channel: u8, n: u8) -> Vec<u8> {
     vec![0x02, channel, n]
+}
+
+/// A read of all that may be asked: with thirteen there it leaves one.
+fn longest_read_frame(channel: u8) -> Vec<u8> {
+    read_frame(channel, RECEIVE_QUEUE_DEPTH as u8)
 }
 
 fn load_frame(channel: u8, bytes: &[u8]) -> Vec<u8> {

@@ -42,15 +42,20 @@ impl Generator {
         self.random.below(2) as u8
     }
 
-    /// A full queue; then XOFF and the literal-next character are lost but
-    /// take effect; then the flags are read.
+    /// A channel that can hold no more, or one more; then XOFF and the
+    /// literal-next character are lost but take effect; then the flags are
+    /// read.
     fn plan_full(&mut self, channel: u8) {
         let known = self.known(channel);
-        let room = 12 - known.receive_queue.len();
+        let room = MOST_ITEMS - known.items().count();
         let xoff = known.settings.xoff();
         let literal_next_character = known.settings.literal_next_character;
-        let more = self.random.between(0, 4);
-        self.plan_arrivals(channel, room + more);
+        let arrivals = match self.random.below(6) {
+            0 => room.saturating_sub(1),
+            _ => room + self.random.between(0, 4),
+        };
+        self.plan_arrivals(channel, arrivals);
+        self.plan_frames(vec![state_frame(channel)]);
         if self.random.chance(1, 2) {
             self.plan_frames(vec![good_arrival_frame(channel, literal_next_character)]);
         }
@@ -63,7 +68,16 @@ impl Generator {
         let more = self.random.between(0, 3);
         self.plan_arrivals(channel, more);
         if self.random.chance(1, 2) {
-            self.plan_frames(vec![read_frame(channel, 12), state_frame(channel)]);
+            self.plan_reads_of_all(channel);
+        }
+    }
+
+    /// Request a: the held item "moves up when a read makes room", and the
+    /// read after it hands it over.
+    fn plan_reads_of_all(&mut self, channel: u8) {
+        self.plan_frames(vec![longest_read_frame(channel), state_frame(channel)]);
+        if self.random.chance(1, 2) {
+            self.plan_frames(vec![read_frame(channel, 1), state_frame(channel)]);
         }
     }
 
@@ -72,7 +86,7 @@ impl Generator {
         let strip = self.zero_or_one();
         self.plan_settings_with(channel, &[(1, 4), (2, 1), (3, strip)]);
         let all_damaged = self.random.chance(1, 4);
-        let number = self.random.between(2, 13);
+        let number = self.random.between(2, MOST_ITEMS + 1);
         for _ in 0..number {
             let kind = if all_damaged {
                 self.random.between(1, 3)
@@ -93,7 +107,7 @@ impl Generator {
             let n = self.random.between(0, 11) as u8;
             self.plan_frames(vec![read_frame(channel, n)]);
         }
-        self.plan_frames(vec![read_frame(channel, 12)]);
+        self.plan_frames(vec![longest_read_frame(channel)]);
     }
 
     fn plan_flow(&mut self, channel: u8) {
@@ -127,7 +141,7 @@ impl Generator {
         self.plan_frames(vec![
             state_frame(channel),
             turn_frame(channel),
-            read_frame(channel, 12),
+            longest_read_frame(channel),
         ]);
     }
 
@@ -307,14 +321,14 @@ impl Generator {
         if self.random.chance(1, 2) {
             self.plan_frames(vec![pick_frame()]);
         }
-        self.plan_frames(vec![read_frame(channel, 12)]);
+        self.plan_frames(vec![longest_read_frame(channel)]);
     }
 
     /// Several channels at their thresholds or one below, then many picks.
     fn plan_picks(&mut self, channel: u8) {
         for other in 0..4 {
             if self.random.chance(1, 4) {
-                self.plan_frames(vec![read_frame(other, 12)]);
+                self.plan_frames(vec![longest_read_frame(other)]);
             } else if self.random.chance(1, 2) {
                 let known = self.known(other);
                 let threshold = known.settings.service_threshold;

@@ -1,10 +1,10 @@
 //! Random traces for reads into lent buffers of any length and place.
 
 use super::*;
-use crate::card::QUEUE_DEPTH;
 use crate::reads::{Call, CHANNEL};
 
-/// The longest lent buffer of a trace: room for a full read, and some more.
+/// The longest lent buffer of a trace: room for the longest read, and some
+/// more.
 const LONGEST_BUFFER: usize = 48;
 
 /// A place beyond the end lies so many bytes beyond it at most.
@@ -25,7 +25,7 @@ const SORTS: [Sort; 6] = [
         kinds: [6, 2, 1, 1],
         bytes: &[0xFF, 0xFF, 0xFF, 0x41, 0x00, 0x7F, 0x80, 0xC1, 0x0D, 0xA5],
     },
-    // Images of three bytes only: a full queue then takes all of 36 bytes.
+    // Images of three bytes only: the longest read then takes all of 36 bytes.
     Sort {
         kinds: [0, 4, 3, 2],
         bytes: &[0xFF, 0x00, 0x41, 0xC1, 0x0A, 0x0D, 0xA5],
@@ -95,14 +95,14 @@ impl ReadsGenerator {
         &mut self.traffic.random
     }
 
+    /// All that wait, request a's held item too.
     fn waiting(&self) -> usize {
-        self.traffic.known(CHANNEL).receive_queue.len()
+        self.traffic.known(CHANNEL).items().count()
     }
 
     /// The bytes that a served read of n would write.
     fn image_bytes(&self, n: usize) -> usize {
-        let queue = &self.traffic.known(CHANNEL).receive_queue;
-        let oldest = queue.iter().take(n);
+        let oldest = self.traffic.known(CHANNEL).items().take(n);
         oldest.map(|waiting| waiting.item.image().len()).sum()
     }
 
@@ -148,35 +148,40 @@ impl ReadsGenerator {
     // Scenes
     // -----------------------------------------------------------------------
 
-    /// Often some items are lost, so that the newest item has its flag.
+    /// Often some items are lost, so that the newest item has its flag. Now and
+    /// then a read of one lets it move up, into the reach of the longest read.
     fn full_or_nearly_full(&mut self) {
         let waiting = match self.random().below(4) {
-            0 => self.random().between(9, 11),
-            _ => QUEUE_DEPTH,
+            0 => self.random().between(9, MOST_ITEMS - 1),
+            _ => MOST_ITEMS,
         };
         self.fill(waiting);
-        if waiting == QUEUE_DEPTH {
+        if waiting == MOST_ITEMS {
             let more = self.random().between(0, 3);
             self.write_arrivals(more);
+            if self.random().chance(1, 3) {
+                let read = self.read_with_room(1, LONGEST_IMAGE);
+                self.write(read);
+            }
         }
         let reads = self.random().between(1, 4);
         self.write_reads(reads);
     }
 
     /// A full queue whose newest item is flagged again and again: in the end
-    /// many flags wait, up to twelve.
+    /// many flags wait, up to thirteen.
     fn flags_throughout(&mut self) {
-        self.fill(QUEUE_DEPTH);
+        self.fill(MOST_ITEMS);
         let rounds = match self.random().below(3) {
-            0 => QUEUE_DEPTH,
-            _ => self.random().between(1, QUEUE_DEPTH),
+            0 => MOST_ITEMS,
+            _ => self.random().between(1, MOST_ITEMS),
         };
         // With two removed each time, every other item has no flag.
         let removed = 1 + usize::from(self.random().chance(1, 5));
         for _ in 0..rounds {
             let read = self.read_with_room(removed, LONGEST_IMAGE * removed);
             self.write(read);
-            self.fill(QUEUE_DEPTH);
+            self.fill(MOST_ITEMS);
             self.write_arrivals(1);
         }
         let reads = self.random().between(1, 3);
@@ -193,7 +198,7 @@ impl ReadsGenerator {
 
     /// "The item is fixed at arrival; later settings don't alter it."
     fn settings_between(&mut self) {
-        let waiting = self.random().between(2, QUEUE_DEPTH);
+        let waiting = self.random().between(2, MOST_ITEMS);
         self.fill(waiting);
         self.write_settings();
         let arrivals = self.random().between(0, 4);
@@ -255,7 +260,7 @@ impl ReadsGenerator {
         for _ in 0..number {
             // Most reads of an empty queue would look the same.
             if self.waiting() == 0 && self.random().chance(2, 3) {
-                let waiting = self.random().between(1, QUEUE_DEPTH);
+                let waiting = self.random().between(1, MOST_ITEMS);
                 self.fill(waiting);
             }
             let read = self.some_read();
@@ -281,7 +286,7 @@ impl ReadsGenerator {
             _ => {}
         }
         // A read of more than 12 has no room anywhere, so 12 are read then.
-        let n = n.min(QUEUE_DEPTH);
+        let n = n.min(RECEIVE_QUEUE_DEPTH);
         let more = match self.random().below(3) {
             0 => self.random().between(1, 12),
             _ => 0,
@@ -311,14 +316,14 @@ impl ReadsGenerator {
     fn some_n(&mut self) -> usize {
         let waiting = self.waiting();
         let n = match self.random().below(10) {
-            0..=2 => QUEUE_DEPTH,
+            0..=2 => RECEIVE_QUEUE_DEPTH,
             3 => waiting,
             4 => waiting + 1,
             5 => waiting.saturating_sub(1),
             6 => 0,
-            _ => self.random().between(0, QUEUE_DEPTH),
+            _ => self.random().between(0, RECEIVE_QUEUE_DEPTH),
         };
-        n.min(QUEUE_DEPTH)
+        n.min(RECEIVE_QUEUE_DEPTH)
     }
 
     /// A read with so many bytes from the place to the buffer's end.
@@ -349,7 +354,7 @@ impl ReadsGenerator {
             0..=2 => 13,
             3 | 4 => 14,
             // As many as a byte would take for 0 to 12.
-            5 => self.random().between(256, 256 + QUEUE_DEPTH),
+            5 => self.random().between(256, 256 + RECEIVE_QUEUE_DEPTH),
             _ => self.random().between(15, 300),
         };
         let enough = LONGEST_IMAGE * n;
@@ -373,7 +378,7 @@ impl ReadsGenerator {
     fn read_with_room_for_the_images(&mut self, n: usize) -> Call {
         // Where all images have three bytes, more must be asked than waits.
         let all_long = self.image_bytes(n) == LONGEST_IMAGE * n;
-        let n = if all_long { QUEUE_DEPTH } else { n };
+        let n = if all_long { RECEIVE_QUEUE_DEPTH } else { n };
         let images = self.image_bytes(n);
         let enough = LONGEST_IMAGE * n;
         if images == enough {
@@ -393,7 +398,7 @@ impl ReadsGenerator {
             0 => 0,
             _ => self.random().between(0, length + FARTHEST_BEYOND),
         };
-        let n = self.random().between(0, QUEUE_DEPTH + 2);
+        let n = self.random().between(0, RECEIVE_QUEUE_DEPTH + 2);
         Call::Read { n, length, place }
     }
 }

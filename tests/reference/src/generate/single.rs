@@ -92,19 +92,19 @@ impl Generator {
     fn some_read(&mut self, channel: u8) -> Vec<u8> {
         let n = match self.profile {
             Profile::Full => match self.random.below(20) {
-                0 => 12,
+                0 => RECEIVE_QUEUE_DEPTH,
                 1..=3 => self.random.between(3, 6),
                 _ => self.random.between(0, 2),
             },
             Profile::Picks if self.random.chance(9, 10) => self.random.between(0, 6),
-            _ if self.random.chance(1, 3) => 12,
-            _ => self.random.between(0, 12),
+            _ if self.random.chance(1, 3) => RECEIVE_QUEUE_DEPTH,
+            _ => self.random.between(0, RECEIVE_QUEUE_DEPTH),
         };
         read_frame(channel, n as u8)
     }
 
     pub(super) fn some_load(&mut self, channel: u8) -> Vec<u8> {
-        let room = 12 - self.known(channel).transmit_queue.len();
+        let room = TRANSMIT_QUEUE_DEPTH - self.known(channel).transmit_queue.len();
         let length = match self.random.below(16) {
             0 => 0,
             1 => room,
