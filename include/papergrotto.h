@@ -135,8 +135,8 @@ bool papergrotto_ready(struct papergrotto_channel channel);
 
 /* Reads n characters, 0 to PAPERGROTTO_MOST: the images of the oldest that wait go into the buffer
  * from the place on. values[0] to [2]: characters removed, how many of them had the overrun flag,
- * bytes written. Where PAPERGROTTO_MOST were removed one may be left: a host that wants all reads
- * again. Refusals 3 and 4. */
+ * bytes written. Where PAPERGROTTO_MOST were removed one may be left: a host that wants them all
+ * reads again. Refusals 3 and 4. */
 struct papergrotto_told papergrotto_read(struct papergrotto_channel *channel, size_t n,
                                          uint8_t *buffer, size_t length, size_t place);
 
@@ -155,8 +155,8 @@ struct papergrotto_told papergrotto_ask_special(struct papergrotto_channel *chan
 /* CTS is now 0 or 1. Refusal 10. */
 struct papergrotto_told papergrotto_set_cts(struct papergrotto_channel *channel, uint8_t value);
 
-/* values[0] to [3]: waiting items, at most PAPERGROTTO_MOST, bytes in the transmit queue, stopped (1)
- * or running (0), loss count. */
+/* values[0] to [3]: waiting items (PAPERGROTTO_MOST at most), bytes in the transmit queue, stopped
+ * (1) or running (0), loss count. */
 struct papergrotto_told papergrotto_state(struct papergrotto_channel channel);
 
 /* ---- what the records computer does with a marked stream ---- */

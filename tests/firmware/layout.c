@@ -89,7 +89,7 @@ static void receive_queue(void)
     for (int more = 3; more < PAPERGROTTO_DEPTH + 0x203; more++)
         papergrotto_arrive(channel, PAPERGROTTO_GOOD, (uint8_t)(more < PAPERGROTTO_DEPTH ? 0x30 + more : 0x21));
     EXPECT(channel->queue.count == PAPERGROTTO_DEPTH && channel->queue.losses == 0x203);
-    EXPECT(papergrotto_state(*channel).values[0] == 12 && papergrotto_state(*channel).values[3] == 0x203);
+    EXPECT(papergrotto_state(*channel).values[0] == PAPERGROTTO_MOST && papergrotto_state(*channel).values[3] == 0x203);
     EXPECT(channel->queue.bytes[HELD] == 0x3C && channel->queue.flags[HELD] == 1 && channel->queue.flags[HELD - 1] == 0);
     EXPECT(papergrotto_read(channel, 1, buffer, sizeof buffer, 0).values[2] == 1 && buffer[0] == 0x41);
     EXPECT(channel->queue.count == 12 && channel->queue.kinds[0] == 1 && channel->queue.flags[HELD - 1] == 1 && channel->queue.flags[HELD] == 0);

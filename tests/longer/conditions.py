@@ -603,7 +603,6 @@ def thirteenth():
     for number in (12, 13):
         yield f'threshold 12 with {number} there', lambda r, n=number: named(r) is not None and \
             r.before.channels[named(r)].field(8) == 12 and len(r.before.channels[named(r)].receive_queue) == n
-    yield 'XOFF is obeyed though 13 wait', there(FULL, lambda r: r.happened('XOFF') and not r.old.stopped and r.new.stopped)
     yield 'XOFF is the thirteenth, stored and obeyed', there(12, lambda r: r.happened('XOFF', 'stored') and r.new.stopped)
     yield 'a swallowed XOFF behind twelve takes no place', there(12, lambda r: r.happened('XOFF') and r.answer == [0, 1])
     yield 'settings leave 13, with their flag', there(FULL, lambda r: r.is_call(7) and r.served and flags(r.new) == [13])
@@ -633,7 +632,6 @@ def held():
     yield 'a held item read in another mode', after_read(
         12, lambda r: r.is_call(2) and r.answer[3:] == [0xFF, 0xFF] and r.old.field(1) != MARK)
     yield 'twelve damaged items out of thirteen: 36 bytes', leaves_one(lambda r: len(r.answer) == 39)
-    yield 'room made by a read of one is taken again', taken
     yield 'one more behind it is lost again', lambda r: r.happened('lost') and any(taken(p) and p.number == r.number for p in r.past[-1:])
     yield 'a read of none makes no room', after_read(0, lambda r: r.happened('lost'))
     yield 'a read of twelve makes room for twelve', there(FULL, lambda r: r.happened('lost') and any(

@@ -1,4 +1,4 @@
-"""The paper's "Errors that look right" and four of request a, each as an edit of the reference that the longer trace must tell apart."""
+"""The paper's "Errors that look right" and four wrong readings of request a, each as an edit of the reference that the longer trace must tell apart."""
 import os
 import subprocess
 

@@ -126,7 +126,8 @@ pub record ToldCounts : Type 1 where
   pub state : (A : Type 0) (z : Size) (a : A) (K : Card A) (n : ℕ)
       → let h = at K n in
       isRefused (step z a K (on n state) .answer) ≡ false
-      → step z a K (on n state) .answer ≡ Shown (min (length (h .queue .slots)) (z .most)) (length (h .transmitter .bytes)) (not (h .flags .running)) (h .queue .losses)
+      → step z a K (on n state) .answer
+      ≡ Shown (min (length (h .queue .slots)) (z .most)) (length (h .transmitter .bytes)) (not (h .flags .running)) (h .queue .losses)
 
 -- DEMAND 3
 

@@ -331,9 +331,10 @@ QueueCase =
     ∷ "0A00" ⇒ "000000000000"
     ∷ [])
 
--- 02 a, "Thirteenth character", worked out by hand. Channel 0, which nobody reads: the state shows 12 with twelve there, and with one held behind
--- them; the fourteenth is lost, and it still shows 12; a read of thirteen is refused; a read of twelve finds no flag and leaves one, the held
--- one, which has moved up and has the flag. Channel 1: a line of thirteen characters, STX 0007 001200 ETX, loses nothing in two reads
+-- 02 a, "Thirteenth character", worked out by hand. Channel 0, which nobody reads at first: the state shows 12 with twelve there, and with one held
+-- behind them; the fourteenth is lost and counted, and the state still shows 12; a read of thirteen is refused; a read of twelve finds no flag and
+-- leaves one, the held one, which has moved up and has the flag. Channel 1: a line of thirteen characters (STX, 0007, a space, 001200, ETX) loses
+-- nothing in two reads
 abbrev pub HeldCase : Type 0
 HeldCase =
     Answered

@@ -11,7 +11,7 @@ use paper::Fate;
 use paper::Item;
 use paper::Ruling;
 
-// The counts stand first, so that the record has no gaps.
+// The counts stand first, so that the record has no gap but at its end.
 #[repr(C)]
 pub struct Queue {
     pub count: usize,

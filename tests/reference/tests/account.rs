@@ -27,7 +27,7 @@ fn each_part_of_a_channel() {
     let settings = "0701040000070100010501012122232425";
     let queued = ["03010A41", "050101", "0401"];
     let arrived = ["01010141", "010100FF", "01010022"];
-    // With ten of these thirteen are there; the next one is lost, and so is
+    // With ten of these, thirteen are there; the next one is lost, and so is
     // the literal-next character behind it.
     let more = ["01010242"; 11];
     let last = ["01010025", "060103", "08"];

@@ -43,8 +43,8 @@ impl Generator {
     }
 
     /// A channel that can hold no more, or one more; then XOFF and the
-    /// literal-next character are lost but take effect; then the flags are
-    /// read.
+    /// literal-next character, which take effect even where they are lost;
+    /// then the flags are read.
     fn plan_full(&mut self, channel: u8) {
         let known = self.known(channel);
         let room = MOST_ITEMS - known.items().count();

@@ -18,7 +18,7 @@ returns c =
     let a = c .before .before .before in
     let x = a .args .self in
     rw (c .refuse .ensures) (refuses x (a .pre) (read (a .args .n) (a .args .place) (now (a .args .buffer))) TooMany
-    (too-many x _ _ _ (c .before .if1 .taken)))
+    (too-many x _ _ _ (omega arith)))
 
 refuse-requires-2 : tie.Need-refuse-requires-2
 refuse-requires-2 c κs = search needs
