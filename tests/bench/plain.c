@@ -15,7 +15,7 @@ void *memset(void *, int, size_t);
 enum {
     DEPTH = 13,         /* "a receive queue of 12 items", and "One more place is to hold an item behind the twelve" */
     MOST = 12,          /* "a read asks for at most 12", "State still shows at most 12 waiting" */
-    SENDING = 12,       /* "a transmit queue of 12 bytes" */
+    TRANSMIT_DEPTH = 12, /* "a transmit queue of 12 bytes" */
     FRAME = 34,         /* "at most 34 bytes" */
     NO_FRAME = 69,      /* the count of digits of a line that refusal 11 is due to: odd, so no frame has it */
     PIECE = 65536,
@@ -141,7 +141,7 @@ static void read_characters(Channel *c, uint8_t n) {
 }
 
 static void load(Channel *c, const uint8_t *bytes, size_t n) {
-    unsigned room = SENDING - c->sending;
+    unsigned room = TRANSMIT_DEPTH - c->sending;
     if (n > room) n = room;
     for (unsigned i = 0; i < n; i++) c->line[(c->first + c->sending + i) & 15] = bytes[i];
     c->sending += n;

@@ -286,16 +286,10 @@ TransmitCase =
     ∷ "0A00" ⇒ "00000C000000"
     ∷ [])
 
--- A full queue, and picks, worked out by hand: with marking, a damaged character and twelve good ones wait, so a further one is lost, and so is
--- XOFF, which stops the transmitter all the same; a read of one makes room for one and not for two; a read of twelve finds one flag, that of the
--- newest when XOFF came, and the next finds one on the newest of all; channels 1 and 2 are picked in turn, then 1 again; read empty, there is none to
--- pick, and the place stays, so that 2 is named before 0; a reset clears the loss count
-abbrev pub QueueCase : Type 0
-QueueCase =
-    Answered
-    ("0700040100000100000100001113000016" ⇒ "00"
-    ∷ "01000141" ⇒ "0000"
-    ∷ "01000042" ⇒ "0000"
+-- eleven good characters, 42 to 4C, arrive on channel 0 and are stored
+abbrev pub elevenStored : List Exchange
+elevenStored =
+    "01000042" ⇒ "0000"
     ∷ "01000043" ⇒ "0000"
     ∷ "01000044" ⇒ "0000"
     ∷ "01000045" ⇒ "0000"
@@ -306,7 +300,19 @@ QueueCase =
     ∷ "0100004A" ⇒ "0000"
     ∷ "0100004B" ⇒ "0000"
     ∷ "0100004C" ⇒ "0000"
-    ∷ "0100004D" ⇒ "0000"
+    ∷ []
+
+-- A full queue, and picks, worked out by hand: with marking, a damaged character and twelve good ones wait, so a further one is lost, and so is
+-- XOFF, which stops the transmitter all the same; a read of one makes room for one and not for two; a read of twelve finds one flag, that of the
+-- newest when XOFF came, and the next finds one on the newest of all; channels 1 and 2 are picked in turn, then 1 again; read empty, there is none to
+-- pick, and the place stays, so that 2 is named before 0; a reset clears the loss count
+abbrev pub QueueCase : Type 0
+QueueCase =
+    Answered
+    ("0700040100000100000100001113000016" ⇒ "00"
+    ∷ "01000141" ⇒ "0000"
+    ∷ elevenStored
+    ++ "0100004D" ⇒ "0000"
     ∷ "0100004E" ⇒ "0002"
     ∷ "01000013" ⇒ "0002"
     ∷ "0A00" ⇒ "000C00010002"
@@ -339,18 +345,8 @@ abbrev pub HeldCase : Type 0
 HeldCase =
     Answered
     ("01000041" ⇒ "0000"
-    ∷ "01000042" ⇒ "0000"
-    ∷ "01000043" ⇒ "0000"
-    ∷ "01000044" ⇒ "0000"
-    ∷ "01000045" ⇒ "0000"
-    ∷ "01000046" ⇒ "0000"
-    ∷ "01000047" ⇒ "0000"
-    ∷ "01000048" ⇒ "0000"
-    ∷ "01000049" ⇒ "0000"
-    ∷ "0100004A" ⇒ "0000"
-    ∷ "0100004B" ⇒ "0000"
-    ∷ "0100004C" ⇒ "0000"
-    ∷ "0A00" ⇒ "000C00000000"
+    ∷ elevenStored
+    ++ "0A00" ⇒ "000C00000000"
     ∷ "0100004D" ⇒ "0000"
     ∷ "0A00" ⇒ "000C00000000"
     ∷ "0100004E" ⇒ "0002"
