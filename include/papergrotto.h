@@ -101,7 +101,7 @@ enum papergrotto_refusal {
     PAPERGROTTO_BAD_CTS = 10        /* CTS neither 0 nor 1 */
 };
 
-/* An arrival's kind, and its fate. */
+/* An arrival's kind. */
 enum papergrotto_kind {
     PAPERGROTTO_GOOD = 0,
     PAPERGROTTO_PARITY = 1,
@@ -109,10 +109,14 @@ enum papergrotto_kind {
     PAPERGROTTO_BREAK = 3
 };
 
+/* An arrival's fate: stored, lost, or why there was nothing to store. */
 enum papergrotto_fate {
     PAPERGROTTO_STORED = 0,
-    PAPERGROTTO_NOTHING = 1,
-    PAPERGROTTO_LOST = 2
+    PAPERGROTTO_FLOW_SWALLOWED = 1,     /* XON or XOFF, obeyed */
+    PAPERGROTTO_LOST = 2,               /* the queue is full */
+    PAPERGROTTO_DAMAGED_DISCARDED = 3,
+    PAPERGROTTO_BREAK_IGNORED = 4,
+    PAPERGROTTO_ENDING_DISCARDED = 5    /* a CR that gives nothing */
 };
 
 /* A fresh record. To reset a channel, store it over the channel's record. */

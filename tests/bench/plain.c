@@ -29,6 +29,8 @@ enum { DAMAGED, BREAKS, STRIP, ENDINGS, FLOW, IMPLIED, LITERAL, THRESHOLD, HOLD,
 enum { GOOD, PARITY, FRAMING, BREAK };                  /* an arrival's kinds */
 enum { PASS = 1, DISCARD, NULL_BYTE, MARK };            /* field 1 */
 enum { PLAIN, DOUBLED, DAMAGED_BYTE };                  /* an item's kinds */
+/* fates: "0 stored", "2 lost", and why nothing was stored */
+enum { STORED, FLOW_SWALLOWED, LOST, DAMAGED_DISCARDED, BREAK_IGNORED, ENDING_DISCARDED };
 
 typedef struct {
     uint8_t settings[15];
@@ -75,14 +77,14 @@ static inline void store(Channel *c, uint8_t kind, uint8_t b) {
     if (c->count == DEPTH) {
         c->flag[(c->head + DEPTH - 1) & 15] = 1;
         if (c->losses < 65535) c->losses++;
-        say2(0, 2);
+        say2(0, LOST);
         return;
     }
     unsigned at = (c->head + c->count++) & 15;
     c->kind[at] = kind;
     c->byte[at] = b;
     c->flag[at] = 0;
-    say2(0, 0);
+    say2(0, STORED);
 }
 
 static inline void store_good(Channel *c, uint8_t b) {
@@ -94,13 +96,13 @@ static void arrive(Channel *c, uint8_t kind, uint8_t b) {
     const uint8_t *s = c->settings;
     if (kind > BREAK) { say(2); return; }
     if (kind == BREAK) {
-        if (!s[BREAKS]) { say2(0, 1); return; }
+        if (!s[BREAKS]) { say2(0, BREAK_IGNORED); return; }
         c->literal = 0;
         store(c, s[DAMAGED] == MARK ? DAMAGED_BYTE : PLAIN, 0);
         return;
     }
     if (kind != GOOD && s[DAMAGED] != PASS) {
-        if (s[DAMAGED] == DISCARD) { say2(0, 1); return; }
+        if (s[DAMAGED] == DISCARD) { say2(0, DAMAGED_DISCARDED); return; }
         c->literal = 0;
         if (s[DAMAGED] == NULL_BYTE) store(c, PLAIN, 0); else store(c, DAMAGED_BYTE, b);
         return;
@@ -111,12 +113,12 @@ static void arrive(Channel *c, uint8_t kind, uint8_t b) {
     if (s[LITERAL] && b == s[QUOTE]) { c->literal = 1; store_good(c, b); return; }
     if (s[FLOW] && (b == s[XON] || b == s[XOFF])) {
         c->stopped = b != s[XON];
-        if (s[FLOW] == 1) store_good(c, b); else say2(0, 1);
+        if (s[FLOW] == 1) store_good(c, b); else say2(0, FLOW_SWALLOWED);
         return;
     }
     if (b == 13 || b == 10) {
         b = b == 13 ? CR_GIVES[s[ENDINGS]] : NL_GIVES[s[ENDINGS]];
-        if (!b) { say2(0, 1); return; }
+        if (!b) { say2(0, ENDING_DISCARDED); return; }
     }
     store_good(c, b);
 }

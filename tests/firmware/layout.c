@@ -1,5 +1,6 @@
-/* Compares the header's record with the compiled one: calls alter a record, and every field must
- * then be found where the header says that it stands. The last line is 'N passed, M failed'. */
+/* Compares the header with the compiled library: calls alter a record, and every field must then be
+ * found where the header says that it stands; and each fate must have the header's number. The last
+ * line is 'N passed, M failed'. */
 #include "papergrotto.h"
 
 #include <stdalign.h>
@@ -109,9 +110,35 @@ static void transmitter_and_flags(void)
     EXPECT(papergrotto_turn(channel).values[1] == 0x0D && channel->transmitter.owed && channel->transmitter.count == 2);
     EXPECT(papergrotto_ask_special(channel, 4).refusal == 0 && channel->transmitter.waits && channel->transmitter.special == 0x62);
     EXPECT(papergrotto_turn(channel).values[1] == 0x62 && !channel->transmitter.waits && channel->transmitter.owed);
-    EXPECT(papergrotto_arrive(channel, PAPERGROTTO_GOOD, 0x53).values[0] == PAPERGROTTO_NOTHING && !channel->flags.running);
+    EXPECT(papergrotto_arrive(channel, PAPERGROTTO_GOOD, 0x53).values[0] == PAPERGROTTO_FLOW_SWALLOWED && !channel->flags.running);
     EXPECT(papergrotto_arrive(channel, PAPERGROTTO_GOOD, 0x71).values[0] == PAPERGROTTO_STORED && channel->flags.literal && channel->flags.running);
     EXPECT(untouched(&made, 0x3C));
+}
+
+/* What an arrival is told that comes when so many good characters wait; field 1 discards, 2 ignores, 4 is row 4 and 5 swallows. */
+static size_t fate(int waiting, uint8_t kind, uint8_t byte)
+{
+    static const uint8_t nothing_stored[PAPERGROTTO_SETTINGS] = {2, 0, 0, 4, 2, 0, 0, 1, 0, 0, 0x11, 0x13, 0x00, 0x00, 0x16};
+    struct papergrotto_channel channel = papergrotto_fresh();
+
+    papergrotto_take_settings(&channel, nothing_stored, sizeof nothing_stored);
+    while (waiting-- > 0)
+        papergrotto_arrive(&channel, PAPERGROTTO_GOOD, 0x41);
+    return papergrotto_arrive(&channel, kind, byte).values[0];
+}
+
+static void fates(void)
+{
+    EXPECT(fate(HELD, PAPERGROTTO_GOOD, 0x42) == PAPERGROTTO_STORED);
+    EXPECT(fate(PAPERGROTTO_DEPTH, PAPERGROTTO_GOOD, 0x42) == PAPERGROTTO_LOST);
+    for (int waiting = 0; waiting <= PAPERGROTTO_DEPTH; waiting++) {
+        EXPECT(fate(waiting, PAPERGROTTO_GOOD, 0x11) == PAPERGROTTO_FLOW_SWALLOWED);
+        EXPECT(fate(waiting, PAPERGROTTO_GOOD, 0x13) == PAPERGROTTO_FLOW_SWALLOWED);
+        EXPECT(fate(waiting, PAPERGROTTO_PARITY, 0x13) == PAPERGROTTO_DAMAGED_DISCARDED);
+        EXPECT(fate(waiting, PAPERGROTTO_FRAMING, 0x0D) == PAPERGROTTO_DAMAGED_DISCARDED);
+        EXPECT(fate(waiting, PAPERGROTTO_BREAK, 0x13) == PAPERGROTTO_BREAK_IGNORED);
+        EXPECT(fate(waiting, PAPERGROTTO_GOOD, 0x0D) == PAPERGROTTO_ENDING_DISCARDED);
+    }
 }
 
 int main(void)
@@ -120,6 +147,7 @@ int main(void)
     fresh();
     receive_queue();
     transmitter_and_flags();
+    fates();
     printf("%d passed, %d failed\n", passed, failed);
     return failed != 0;
 }

@@ -7,7 +7,8 @@ import json
 import types
 
 PASS, DISCARD, NULL, MARK = 1, 2, 3, 4
-GOOD, BREAK = 0, 3
+GOOD, PARITY, FRAMING, BREAK = 0, 1, 2, 3
+STORED, FLOW_SWALLOWED, LOST, DAMAGED_DISCARDED, BREAK_IGNORED, ENDING_DISCARDED = range(6)        # an arrival's fates
 CR, NL = 0x0D, 0x0A
 FULL = 13       # the paper's 12, and behind them one more: "A loss now happens at thirteen" in request a
 LENGTHS = {1: 4, 2: 3, 3: 2, 4: 2, 5: 3, 6: 3, 7: 2, 8: 1, 9: 2, 10: 2}      # the least listed length of each frame
@@ -62,7 +63,7 @@ def records_of(lines, account):
 
 def events_of(r):
     if r.is_call(1) and r.served:
-        return {0: ['stored'], 2: ['lost']}.get(r.answer[1], []) + [end_of_arrival(r)]
+        return {STORED: ['stored'], LOST: ['lost']}.get(r.answer[1], []) + [end_of_arrival(r)]
     return [turned(r.old, r.new)] if r.is_call(4) else []
 
 
@@ -77,6 +78,17 @@ def end_of_arrival(r):
         return 'step 4' if r.old.literal_mark else 'step 5'
     flow = {r.old.field(11): 'XON', r.old.field(12): 'XOFF'} if r.old.field(5) else {}
     return flow.get(byte % 128 if r.old.field(3) else byte, 'step 7')
+
+
+def reason(r):
+    """Why an arrival has nothing to store, by the step that it ended in; None where it has something."""
+    ended = r.events[-1]
+    if ended in ('XON', 'XOFF'):
+        return FLOW_SWALLOWED if r.old.field(5) == 2 else None
+    if ended == 'step 7':
+        byte = r.frame[3] % 128 if r.old.field(3) else r.frame[3]
+        return ENDING_DISCARDED if byte == CR and r.old.field(4) >= 4 else None
+    return {'damaged discarded': DAMAGED_DISCARDED, 'break ignored': BREAK_IGNORED}.get(ended)
 
 
 def turned(old, new):
@@ -117,6 +129,12 @@ def always():
         r.answer[1] == min(r.frame[2], len(r.old.receive_queue)) and r.new.receive_queue == r.old.receive_queue[r.answer[1]:])
     yield 'a state shows the items that are there, 12 at most', lambda r: not r.is_call(10) or \
         r.answer[1] == min(len(r.old.receive_queue), 12)
+    # request b: "1 flow character swallowed, 3 damaged discarded, 4 break ignored, 5 line ending discarded. 0 and 2 stay"
+    yield 'an arrival with nothing to store is told by its reason, and any other is stored or lost', lambda r: \
+        not (r.is_call(1) and r.served) or r.answer[1] in ((STORED, LOST) if reason(r) is None else (reason(r),))
+    yield 'an arrival with nothing to store leaves the queue and the loss count', lambda r: \
+        not (r.is_call(1) and r.served) or reason(r) is None or (
+            r.new.receive_queue == r.old.receive_queue and r.new.loss_count == r.old.loss_count)
 
 
 # ---- refusals
@@ -310,7 +328,7 @@ def endings():
     for row, gives in enumerate(ROWS):
         for name, byte, out in (('CR', CR, gives[0]), ('NL', NL, gives[1]), ('another', 0x0C, 0x0C)):
             yield f'row {row}: {name}', lambda r, row=row, b=byte, o=out: r.happened('step 7') and r.old.field(4) == row and \
-                r.frame[3] == b and (r.answer == [0, 1] if o is None else r.new.receive_queue[-1][:2] == ['plain', o])
+                r.frame[3] == b and (r.answer == [0, ENDING_DISCARDED] if o is None else r.new.receive_queue[-1][:2] == ['plain', o])
     for name, byte in (('CR', CR), ('NL', NL)):
         yield f'stripped {name} is looked up', lambda r, b=byte: r.happened('step 7') and r.old.field(3) and \
             r.frame[3] == b + 128 and r.new.receive_queue[-1][1] not in (b, b + 128)
@@ -338,7 +356,7 @@ def flow():
         yield f'special {s} arrives and stops nothing', lambda r, s=s: r.happened('step 7') and r.old.field(5) and \
             r.frame[3] == r.old.field(10 + s) and not r.new.stopped
     yield 'implied XON: an ordinary character', lambda r: started(r) and r.happened('step 7', 'stored')
-    yield 'implied XON: a line ending that gives nothing', lambda r: started(r) and r.answer == [0, 1] and r.happened('step 7')
+    yield 'implied XON: a line ending that gives nothing', lambda r: started(r) and r.answer == [0, ENDING_DISCARDED]
     yield 'implied XON: the literal-next character', lambda r: started(r) and r.happened('step 5')
     yield 'implied XON: XON', lambda r: started(r) and r.happened('XON')
     yield 'implied XON: a damaged character that passes', lambda r: started(r) and r.frame[2] in (1, 2)
@@ -389,11 +407,11 @@ def full_queue():
     for event in ('break kept', 'damaged marked', 'damaged null'):
         yield f'{event}, lost, clears the mark', at_full(lambda r, e=event: r.happened(e) and r.old.literal_mark and not r.new.literal_mark)
     for name in ('XON', 'XOFF'):
-        yield f'a swallowed {name} is not lost', lambda r, n=name: r.happened(n) and len(r.old.receive_queue) == FULL and r.answer == [0, 1]
-    yield 'a discarded character is not lost', lambda r: r.happened('damaged discarded') and len(r.old.receive_queue) == FULL
-    yield 'an ignored break is not lost', lambda r: r.happened('break ignored') and len(r.old.receive_queue) == FULL
-    yield 'a line ending that gives nothing is not lost', lambda r: r.happened('step 7') and len(r.old.receive_queue) == FULL and \
-        r.answer == [0, 1]
+        yield f'a swallowed {name} is not lost', lambda r, n=name: r.happened(n) and len(r.old.receive_queue) == FULL and \
+            r.answer == [0, FLOW_SWALLOWED]
+    for name, event, fate in (('a discarded character', 'damaged discarded', DAMAGED_DISCARDED), ('an ignored break', 'break ignored', BREAK_IGNORED),
+                              ('a line ending that gives nothing', 'step 7', ENDING_DISCARDED)):
+        yield f'{name} is not lost', lambda r, e=event, f=fate: r.happened(e) and len(r.old.receive_queue) == FULL and r.answer == [0, f]
     yield 'the newest item gets the flag', at_full(lambda r: not any(i[2] for i in r.old.receive_queue) and r.new.receive_queue[-1][2] == 1)
     yield 'the flag is set again', at_full(lambda r: r.old.receive_queue[-1][2] == 1)
     yield 'a flag on an older item stays', at_full(lambda r: any(i[2] for i in r.old.receive_queue[:-1]) and not r.old.receive_queue[-1][2])
@@ -604,7 +622,7 @@ def thirteenth():
         yield f'threshold 12 with {number} there', lambda r, n=number: named(r) is not None and \
             r.before.channels[named(r)].field(8) == 12 and len(r.before.channels[named(r)].receive_queue) == n
     yield 'XOFF is the thirteenth, stored and obeyed', there(12, lambda r: r.happened('XOFF', 'stored') and r.new.stopped)
-    yield 'a swallowed XOFF behind twelve takes no place', there(12, lambda r: r.happened('XOFF') and r.answer == [0, 1])
+    yield 'a swallowed XOFF behind twelve takes no place', there(12, lambda r: r.happened('XOFF') and r.answer == [0, FLOW_SWALLOWED])
     yield 'settings leave 13, with their flag', there(FULL, lambda r: r.is_call(7) and r.served and flags(r.new) == [13])
     yield 'reset drops 13', there(FULL, lambda r: r.is_call(9))
     yield 'after a reset with 13 there a read finds none', lambda r: r.is_call(2) and r.answer == [0, 0, 0] and any(
@@ -640,6 +658,47 @@ def held():
     yield 'a flag that has moved up, and one on the held item', there(FULL, lambda r: r.happened('lost') and flags(r.new) == [12, 13])
 
 
+# ---- request b
+
+def nothing_stored():
+    def told(fate, test):
+        return lambda r: r.is_call(1) and r.answer == [0, fate] and test(r)
+
+    def at(fate, number):
+        return told(fate, lambda r: len(r.old.receive_queue) == number)
+
+    swallows = lambda r: r.old.field(5) == 2        # noqa: E731
+    drops = lambda r: r.old.field(4) >= 4           # noqa: E731
+    for fate, name in ((FLOW_SWALLOWED, 'flow character swallowed'), (DAMAGED_DISCARDED, 'damaged discarded'), (BREAK_IGNORED, 'break ignored'),
+                       (ENDING_DISCARDED, 'line ending discarded')):
+        for number in (0, 12, FULL):
+            yield f'{fate}, {name}, {number} there', at(fate, number)
+    for name, was, fate in (('XON', True, FLOW_SWALLOWED), ('XOFF', False, FLOW_SWALLOWED)):
+        yield f'{name} swallowed, and obeyed', told(fate, lambda r, n=name, w=was: r.happened(n) and r.old.stopped == w and r.new.stopped != w)
+        yield f'{name} by strip swallowed', told(fate, lambda r, n=name: r.happened(n) and r.frame[3] > 127)
+    yield 'CR by strip discarded', told(ENDING_DISCARDED, lambda r: r.frame[3] > 127)
+    for row in (4, 5, 6, 7):
+        yield f'CR discarded in row {row}', told(ENDING_DISCARDED, lambda r, row=row: r.old.field(4) == row)
+    for kind, what in ((PARITY, 'parity'), (FRAMING, 'framing')):
+        for fate, name in ((FLOW_SWALLOWED, 'XOFF'), (FLOW_SWALLOWED, 'XON'), (ENDING_DISCARDED, 'step 7')):
+            yield f'{what} error that passes: {fate}, not 3, {name}', told(fate, lambda r, k=kind, n=name: r.frame[2] == k and r.happened(n))
+        yield f'{what} error of XOFF discarded: 3, not 1', told(DAMAGED_DISCARDED, lambda r, k=kind: r.frame[2] == k and swallows(r) and
+                                                               r.frame[3] == r.old.field(12))
+        yield f'{what} error of CR discarded: 3, not 5', told(DAMAGED_DISCARDED, lambda r, k=kind: r.frame[2:] == bytes((k, CR)) and drops(r))
+    yield 'a break with the byte of XOFF: 4, not 1', told(BREAK_IGNORED, lambda r: swallows(r) and r.frame[3] == r.old.field(12))
+    yield 'a break with the byte CR: 4, not 5', told(BREAK_IGNORED, lambda r: drops(r) and r.frame[3] == CR)
+    yield 'a break where damaged characters are discarded: 4, not 3', told(BREAK_IGNORED, lambda r: r.old.field(1) == DISCARD)
+    yield 'XOFF that is CR: 1, not 5', told(FLOW_SWALLOWED, lambda r: drops(r) and r.frame[3] == CR)
+    yield 'CR behind the literal mark: 0, not 5', told(STORED, lambda r: r.happened('step 4') and drops(r) and r.frame[3] == CR)
+    yield 'XOFF behind the literal mark: 0, not 1', told(STORED, lambda r: r.happened('step 4') and swallows(r) and r.frame[3] == r.old.field(12))
+    yield 'a literal-next character that is CR: 0, not 5', told(STORED, lambda r: r.happened('step 5') and drops(r) and r.frame[3] == CR)
+    yield 'XOFF obeyed and stored that is CR: 0, not 5', told(STORED, lambda r: r.happened('XOFF') and drops(r) and r.frame[3] == CR)
+    for fate in (DAMAGED_DISCARDED, BREAK_IGNORED):
+        yield f'{fate} behind the literal mark, which stays', told(fate, lambda r: r.old.literal_mark and r.new.literal_mark)
+    yield 'all four in a row at a full queue', lambda r: r.happened('lost') and [p.answer for p in r.past[-4:]] == [
+        [0, FLOW_SWALLOWED], [0, DAMAGED_DISCARDED], [0, BREAK_IGNORED], [0, ENDING_DISCARDED]]
+
+
 MET = [
     ('refusals by number', refusals), ('refusal 11', no_frame), ('order of refusals', order),
     ('settings: ranges', setting_edges), ('settings: crossed values', crossed), ('taking settings', taking),
@@ -647,6 +706,7 @@ MET = [
     ('literal-next', literal), ('a full queue', full_queue), ('reads', reading), ('loads', loading), ('line turns', turns),
     ('special characters', special_characters), ('picks', picking), ('states', states), ('resets', resets),
     ('spelling', spelling), ('the thirteenth character', thirteenth), ('the held item', held),
+    ('why nothing was stored', nothing_stored),
 ]
 ALWAYS = always
 

@@ -1,4 +1,4 @@
-"""The paper's "Errors that look right" and four wrong readings of request a, each as an edit of the reference that the longer trace must tell apart."""
+"""The paper's "Errors that look right" and wrong readings of the requests, each as an edit of the reference that the longer trace must tell apart."""
 import os
 import subprocess
 
@@ -32,6 +32,19 @@ ERRORS = [
     ('a loss at twelve', 'self.held_item = Some(arrived);',
      'self.receive_queue[RECEIVE_QUEUE_DEPTH - 1].overrun = true;\nself.loss_count = self.loss_count.saturating_add(1);\n'
      'return Fate::Lost;'),
+    # request b: "Split it: 1 flow character swallowed, 3 damaged discarded, 4 break ignored, 5 line ending discarded"
+    ('two reasons exchanged', 'Fate::DamagedDiscarded => 3,\n            Fate::BreakIgnored => 4,',
+     'Fate::DamagedDiscarded => 4,\n            Fate::BreakIgnored => 3,'),
+    ('every reason told as 1', 'Fate::DamagedDiscarded => 3,\n            Fate::BreakIgnored => 4,\n            Fate::LineEndingDiscarded => 5,',
+     'Fate::DamagedDiscarded => 1,\n            Fate::BreakIgnored => 1,\n            Fate::LineEndingDiscarded => 1,'),
+    # "Pass: go on as good"
+    ('a passed XOFF or CR told as damaged', 'DamagedCharacters::Pass => self.arrival_step_3_good(byte),',
+     'DamagedCharacters::Pass => match self.arrival_step_3_good(byte) {\n'
+     'Fate::FlowCharacterSwallowed | Fate::LineEndingDiscarded => Fate::DamagedDiscarded,\nfate => fate,\n},'),
+    ('an ignored break told as lost where the queue is full', 'return Fate::BreakIgnored;',
+     'return if self.held_item.is_some() { Fate::Lost } else { Fate::BreakIgnored };'),
+    ('a swallowed XOFF that is CR told as a line ending', '            Fate::FlowCharacterSwallowed\n',
+     '            if byte == CR { Fate::LineEndingDiscarded } else { Fate::FlowCharacterSwallowed }\n'),
 ]
 
 # the frame program alone: without the generators it is compiled in less than a second

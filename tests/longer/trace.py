@@ -1,5 +1,5 @@
 #!/usr/bin/env python3
-"""Writes the longer trace to standard output: sections written by hand, each for a few sentences of the paper or of request a.
+"""Writes the longer trace to standard output: sections written by hand, each for a few sentences of the paper or of a request of 02.
 
     trace.py > crates/frames_longer/stdin
 
@@ -515,7 +515,7 @@ def flags_at_a_full_queue():
 
 
 def nothing_to_store_at_a_full_queue():
-    # the queue is still full. Swallowed characters are not lost: fate 1, and the count stays
+    # the queue is still full. Swallowed characters are not lost: the count stays
     settings(2, flow=2, literal=1)
     arrive(2, XOFF)
     state(2)
@@ -536,6 +536,59 @@ def nothing_to_store_at_a_full_queue():
     read(2)
     state(2)
     reset(2)
+
+
+def why_nothing_was_stored():
+    # request b: "1 flow character swallowed, 3 damaged discarded, 4 break ignored, 5 line ending discarded"; with nothing there, with twelve, with one
+    # held behind them
+    settings(1, damaged=DISCARD, breaks=0, endings=4, flow=2)
+    for good in ([], range(0x61, 0x6D), [0x6D]):
+        arrive(1, *good)
+        arrive(1, XON, XOFF)
+        state(1)
+        arrive(1, XON)
+        state(1)
+        for kind in (PARITY, FRAMING):
+            arrive(1, XOFF, CR, kind=kind)
+        arrive(1, XOFF, CR, kind=BREAK)
+        arrive(1, CR)
+        state(1)
+    # each of the four, and then a loss: only this one is counted
+    arrive(1, XOFF)
+    arrive(1, 0x41, kind=PARITY)
+    arrive(1, 0x41, kind=BREAK)
+    arrive(1, CR, 0x6E)
+    state(1)
+    read(1, 12)
+    read(1, 12)
+    reset(1)
+
+
+def reasons_of_passed_and_literal_characters():
+    # "Pass: go on as good": what is then swallowed, or is a line ending that gives nothing, was not discarded as damaged
+    for row, kind in ((4, PARITY), (5, FRAMING), (6, PARITY), (7, FRAMING)):
+        settings(1, breaks=0, strip=1, endings=row, flow=2)
+        arrive(1, XOFF + 0x80, XOFF, kind=kind)
+        state(1)
+        arrive(1, XON + 0x80, CR, CR + 0x80, kind=kind)
+        state(1)
+        arrive(1, CR, CR + 0x80, NL, XOFF + 0x80, XON + 0x80)
+        read(1)
+    # "Literal mark set: clear it, store b, stop.", whatever b is; what is discarded or ignored leaves the mark
+    settings(1, damaged=DISCARD, breaks=0, endings=4, flow=2, literal=1)
+    arrive(1, QUOTE, CR, CR, QUOTE, XOFF, XOFF, QUOTE)
+    arrive(1, 0x41, kind=PARITY)
+    arrive(1, 0x41, kind=BREAK)
+    arrive(1, CR, CR)
+    # steps 5 and 6 stand before step 7: CR as literal-next character, as XOFF that is swallowed, and as XOFF that is stored
+    settings(1, endings=7, literal=1, quote=CR)
+    arrive(1, CR, CR)
+    for flow in (2, 1):
+        settings(1, endings=7, flow=flow, xoff=CR)
+        arrive(1, CR)
+        state(1)
+    read(1)
+    reset(1)
 
 
 # ---- losses and reads
@@ -1000,6 +1053,7 @@ SECTIONS = [
     ranges_of_settings, length_of_settings, crossed_settings, taking_settings,
     damaged_characters, damaged_specials, good_ff, line_endings, flow_characters, implied_xon,
     literal_next, between_mark_and_character, flags_at_a_full_queue, nothing_to_store_at_a_full_queue,
+    why_nothing_was_stored, reasons_of_passed_and_literal_characters,
     losses, many_losses, thirteenth_character, held_item, reads, loads,
     stopped_and_held, newlines, owed_newlines, specials, specials_and_settings, special_refusals, one_reset_of_four,
     letter_case, refusal_1, no_frames, unknown_and_unlisted, long_lines, last_line,

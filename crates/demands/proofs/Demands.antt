@@ -1,6 +1,6 @@
 -- Every demand of specs/Demands.antt, with its proof.
 use Rattle.demands.specs.Demands.{Demands}
-use Rattle.demands.proofs.Examples.{ranges, crossed, table, endings, loss-stays, read-cases, reader-cases, whole-case, transmit-case, queue-case, held-case, two-hosts}
+use Rattle.demands.proofs.Examples.{ranges, crossed, table, endings, loss-stays, read-cases, reader-cases, whole-case, transmit-case, queue-case, held-case, nothing-stored-case, two-hosts}
 use Rattle.demands.proofs.Reader.{reader, reader-call, clean-front}
 use Rattle.demands.proofs.ReadBack.{read-back}
 use Rattle.demands.proofs.Fifo.{first-in-first-out, loss-count}
@@ -27,6 +27,7 @@ demands =
       transmit-case = transmit-case;
       queue-case = queue-case;
       held-case = held-case;
+      nothing-stored-case = nothing-stored-case;
       reader = reader;
       reader-call = reader-call;
       clean-front = clean-front;

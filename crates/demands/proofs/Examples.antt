@@ -7,7 +7,7 @@ use Rattle.paper.specs.Transmitter.{transmitDepth, loaded, transmitStep}
 use Rattle.paper.specs.Channel.{noRoom, channelStep}
 use Rattle.paper.specs.Card.{picked, step}
 use Rattle.paper.specs.Frames.{callOf, digit, lineCall}
-use Rattle.demands.specs.Examples.{Ranges, Crossed, Table, Endings, LossStays, ReadCases, ReaderCases, WholeCase, TransmitCase, QueueCase, HeldCase}
+use Rattle.demands.specs.Examples.{Ranges, Crossed, Table, Endings, LossStays, ReadCases, ReaderCases, WholeCase, TransmitCase, QueueCase, HeldCase, NothingStoredCase}
 use Rattle.demands.specs.Demands.{TwoHosts}
 
 pub ranges : Ranges
@@ -52,6 +52,10 @@ queue-case = refl
 pub held-case : HeldCase
 unfolding badField goodItem step1 step2 stripped woken step4 step5 flowRuling step6 ending step7 good arrival transmitDepth loaded transmitStep noRoom channelStep picked step callOf digit lineCall
 held-case = refl
+
+pub nothing-stored-case : NothingStoredCase
+unfolding badField goodItem step1 step2 stripped woken step4 step5 flowRuling step6 ending step7 good arrival transmitDepth loaded transmitStep noRoom channelStep picked step callOf digit lineCall
+nothing-stored-case = refl
 
 pub two-hosts : TwoHosts
 unfolding badField goodItem step1 step2 stripped woken step4 step5 flowRuling step6 ending step7 good arrival noRoom channelStep picked step

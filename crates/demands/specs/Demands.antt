@@ -18,7 +18,7 @@ use Rattle.paper.specs.declared.Reading.the-variants.{Items, Unread}
 use Rattle.paper.specs.declared.Fate.the-variants.{Stored, Lost}
 use Rattle.paper.specs.declared.Answer.the-variants.{Handed, Shown, Picked}
 use Rattle.demands.specs.Text.{text}
-use Rattle.demands.specs.Examples.{Ranges, Crossed, Table, Endings, LossStays, ReadCases, ReaderCases, WholeCase, TransmitCase, QueueCase, HeldCase}
+use Rattle.demands.specs.Examples.{Ranges, Crossed, Table, Endings, LossStays, ReadCases, ReaderCases, WholeCase, TransmitCase, QueueCase, HeldCase, NothingStoredCase}
 use Rattle.demands.specs.Marks.{characterOf, stream, Accepts}
 use Rattle.demands.specs.History.{isRefused, Entry, port, events, Marking, queueHistory, sinceReset, NoReset, handed, bytesFound, stored, lost, between, Before, befores, numbered, Each, NoWorse, NoPick}
 use Rattle.demands.specs.Conditions.{conditions, FirstDue}
@@ -199,6 +199,7 @@ pub record Demands : Type 1 where
   pub transmit-case : TransmitCase
   pub queue-case : QueueCase
   pub held-case : HeldCase
+  pub nothing-stored-case : NothingStoredCase
   pub refusals : Refusals
   pub lines : Lines
   pub bounds : Bounds

@@ -372,3 +372,53 @@ HeldCase =
     ∷ "02010C" ⇒ "00010003"
     ∷ "0A01" ⇒ "000000000000"
     ∷ [])
+
+-- 02 b, "Say why nothing was stored", worked out by hand. Damaged characters discarded, breaks ignored, row 4 of the line endings, flow characters
+-- swallowed, literal-next on: XOFF is swallowed (1) and stops the transmitter, XON is swallowed (1) and sets it running; a damaged XOFF is discarded (3,
+-- not 1) and stops nothing, and a damaged CR is discarded (3, not 5); a break is ignored (4), whatever its byte; a CR is discarded (5), but stored (0)
+-- behind the literal mark, which a discarded character between them leaves; the next CR is discarded again. Damaged characters passed, strip on: a
+-- damaged XOFF is swallowed and stops (1, not 3), a damaged XON is swallowed and sets running, a damaged CR is a line ending discarded (5, not 3).
+-- Thirteen wait: each of the four is told by its own number and not as lost (2), and nothing is counted; a good character is lost. XOFF is the
+-- character 0D: it is swallowed (1, not 5); obeyed and stored, it is lost
+abbrev pub NothingStoredCase : Type 0
+NothingStoredCase =
+    Answered
+    ("0700020000040200010100001113000016" ⇒ "00"
+    ∷ "01000013" ⇒ "0001"
+    ∷ "0A00" ⇒ "000000010000"
+    ∷ "01000011" ⇒ "0001"
+    ∷ "0A00" ⇒ "000000000000"
+    ∷ "01000113" ⇒ "0003"
+    ∷ "0A00" ⇒ "000000000000"
+    ∷ "0100020D" ⇒ "0003"
+    ∷ "01000313" ⇒ "0004"
+    ∷ "0100000D" ⇒ "0005"
+    ∷ "01000016" ⇒ "0000"
+    ∷ "01000141" ⇒ "0003"
+    ∷ "0100000D" ⇒ "0000"
+    ∷ "0100000D" ⇒ "0005"
+    ∷ "0100000A" ⇒ "0000"
+    ∷ "0700010001050200010100001113000016" ⇒ "00"
+    ∷ "01000193" ⇒ "0001"
+    ∷ "0A00" ⇒ "000300010000"
+    ∷ "01000211" ⇒ "0001"
+    ∷ "0A00" ⇒ "000300000000"
+    ∷ "0100028D" ⇒ "0005"
+    ∷ "02000C" ⇒ "000300160D0A"
+    ∷ "0700020000060200000100001113000016" ⇒ "00"
+    ∷ elevenStored
+    ++ "0100004D" ⇒ "0000"
+    ∷ "0100004E" ⇒ "0000"
+    ∷ "01000013" ⇒ "0001"
+    ∷ "01000141" ⇒ "0003"
+    ∷ "01000300" ⇒ "0004"
+    ∷ "0100000D" ⇒ "0005"
+    ∷ "0A00" ⇒ "000C00010000"
+    ∷ "0100004F" ⇒ "0002"
+    ∷ "0A00" ⇒ "000C00010001"
+    ∷ "0700020000070200000100000A0D000016" ⇒ "00"
+    ∷ "0100000D" ⇒ "0001"
+    ∷ "0700020000070100000100000A0D000016" ⇒ "00"
+    ∷ "0100000D" ⇒ "0002"
+    ∷ "0A00" ⇒ "000C00010002"
+    ∷ [])

@@ -10,6 +10,7 @@ ghost use Rattle.printing.specs.Printed.{refusalNumber, lineOf, Room, Sm
 use paper::Answer;
 use paper::Fate;
 use paper::Refusal;
+use paper::Why;
 
 // The longest line: 00, characters, flagged and the bytes of a read, two capitals each, and a newline.
 pub const LONGEST: usize = 2 * (3 + paper::LENT) + 1;
@@ -74,14 +75,19 @@ pub fn put_refused(out: &mut [u8], at: usize, refusal: Refusal) -> usize
     }
 }
 
-// "0 stored, 1 nothing to store, 2 lost"
+// "0 stored", "2 lost"; or 1, 3, 4 or 5, by why nothing was stored.
 pub fn fate_number(fate: Fate) -> u8
     ensures { λ r. ⌜ r ≡ fateNumber fate ⌝ }
 {
     match fate {
         Fate::Stored => 0,
-        Fate::Nothing(_) => 1,
         Fate::Lost => 2,
+        Fate::Nothing(why) => match why {
+            Why::FlowSwallowed => 1,
+            Why::DamagedDiscarded => 3,
+            Why::BreakIgnored => 4,
+            Why::EndingDiscarded => 5,
+        },
     }
 }
 

@@ -288,20 +288,28 @@ impl Kind {
     }
 }
 
-/// "The answer is a fate: 0 stored, 1 nothing to store, 2 lost."
+/// "The answer is a fate: 0 stored, 1 nothing to store, 2 lost." Request b:
+/// "Split it: 1 flow character swallowed, 3 damaged discarded, 4 break ignored,
+/// 5 line ending discarded. 0 and 2 stay".
 #[derive(Clone, Copy, Debug, PartialEq, Eq)]
 pub enum Fate {
     Stored,
-    NothingToStore,
+    FlowCharacterSwallowed,
     Lost,
+    DamagedDiscarded,
+    BreakIgnored,
+    LineEndingDiscarded,
 }
 
 impl Fate {
     pub fn number(&self) -> u8 {
         match self {
             Fate::Stored => 0,
-            Fate::NothingToStore => 1,
+            Fate::FlowCharacterSwallowed => 1,
             Fate::Lost => 2,
+            Fate::DamagedDiscarded => 3,
+            Fate::BreakIgnored => 4,
+            Fate::LineEndingDiscarded => 5,
         }
     }
 }
@@ -389,10 +397,11 @@ impl Channel {
     }
 
     /// "1. Break. Ignored: nothing changes. Kept: store damaged 00 in mark
-    /// mode, else plain 00; clear the literal mark."
+    /// mode, else plain 00; clear the literal mark." Request b: "4 break
+    /// ignored".
     fn arrival_step_1_break(&mut self) -> Fate {
         if !self.settings.keep_break {
-            return Fate::NothingToStore;
+            return Fate::BreakIgnored;
         }
         self.literal_mark = false;
         if self.settings.mark_mode() {
@@ -405,10 +414,11 @@ impl Channel {
     /// "2. Parity or framing error. Pass: go on as good. Discard: nothing
     /// changes. Null: store plain 00. Mark: store damaged b, unstripped. The
     /// last two clear the literal mark, and match no special character."
+    /// Request b: "3 damaged discarded".
     fn arrival_step_2_damaged(&mut self, byte: u8) -> Fate {
         match self.settings.damaged_characters {
             DamagedCharacters::Pass => self.arrival_step_3_good(byte),
-            DamagedCharacters::Discard => Fate::NothingToStore,
+            DamagedCharacters::Discard => Fate::DamagedDiscarded,
             DamagedCharacters::Null => {
                 self.literal_mark = false;
                 self.store_item(Item::Plain(0x00))
@@ -457,7 +467,8 @@ impl Channel {
     }
 
     /// "6. Field 5 not 0 and b is XON or XOFF: set running or stopped; store
-    /// b for value 1, store nothing for value 2; stop."
+    /// b for value 1, store nothing for value 2; stop." Request b: "1 flow
+    /// character swallowed".
     fn arrival_step_6_flow_characters(&mut self, byte: u8) -> Fate {
         let is_xon = byte == self.settings.xon();
         let is_xoff = byte == self.settings.xoff();
@@ -470,12 +481,13 @@ impl Channel {
         if flow_characters == FlowCharacters::ObeyAndStore {
             self.store_good(byte)
         } else {
-            Fate::NothingToStore
+            Fate::FlowCharacterSwallowed
         }
     }
 
     /// "7. Line endings (CR 0D, NL 0A), one lookup and no second one; store
-    /// what comes out."
+    /// what comes out." Request b: "5 line ending discarded", where the table
+    /// gives nothing.
     fn arrival_step_7_line_endings(&mut self, byte: u8) -> Fate {
         let (cr_gives, nl_gives) = LINE_ENDINGS[self.settings.line_endings];
         let comes_out = match byte {
@@ -485,7 +497,7 @@ impl Channel {
         };
         match comes_out {
             Some(stored) => self.store_good(stored),
-            None => Fate::NothingToStore,
+            None => Fate::LineEndingDiscarded,
         }
     }
 

@@ -1,6 +1,7 @@
 //! An independent reference implementation of the paper
-//! "Exact rules for the build: four serial channels", and of request a,
-//! "Thirteenth character", of the "Further requests from customers".
+//! "Exact rules for the build: four serial channels", and of two of the
+//! "Further requests from customers": a, "Thirteenth character", and b, "Say
+//! why nothing was stored".
 //! Comments in quotation marks quote the paper; the words of a request follow
 //! its name.
 

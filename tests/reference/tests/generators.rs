@@ -8,6 +8,10 @@ use reference::generate::{reads, streams, trace, Profile, PROFILES};
 use reference::reads::{program as reads_program, Call, CHANNEL};
 use std::collections::BTreeMap;
 
+/// Request b: "1 flow character swallowed, 3 damaged discarded, 4 break
+/// ignored, 5 line ending discarded".
+const REASONS: [u8; 4] = [1, 3, 4, 5];
+
 fn newlines(bytes: &[u8]) -> usize {
     bytes.iter().filter(|byte| **byte == 0x0A).count()
 }
@@ -29,32 +33,49 @@ fn items(card: &Card, channel: u8) -> usize {
     card.channels[usize::from(channel)].items().count()
 }
 
+/// The bytes of a line, none for a line that is no hexadecimal.
+fn frame_of(line: &[u8]) -> Vec<u8> {
+    let digits = String::from_utf8_lossy(line).to_ascii_uppercase();
+    bytes_of_field(&digits).unwrap_or_default()
+}
+
+/// How often each thing was met.
+type Tally = BTreeMap<String, usize>;
+
+/// What an arrival met: how many items were there before it, and its fate.
+fn arrival_met(there: usize, fate: u8) -> String {
+    format!("arrival, {there} there: fate {fate}")
+}
+
+fn arrived(tally: &Tally, there: usize, fate: u8) -> usize {
+    tally.get(&arrival_met(there, fate)).copied().unwrap_or(0)
+}
+
 /// What a frame met: the call, how many items were there before it, and what
 /// was asked and answered.
-fn met(before: &Card, frame: &[u8], answer: &[u8]) -> String {
+fn met(before: [usize; 4], frame: &[u8], answer: &[u8]) -> String {
     let [call, channel @ 0..=3, ..] = *frame else {
         return "no channel".to_string();
     };
-    let there = items(before, channel);
+    let there = before[usize::from(channel)];
     match (frame, answer) {
-        ([0x01, _, _, _], [0, fate]) => format!("arrival, {there} there: fate {fate}"),
+        ([0x01, _, _, _], [0, fate]) => arrival_met(there, *fate),
         ([0x02, _, n], [number, ..]) => format!("read {n}, {there} there: {number}"),
         (_, [number, ..]) => format!("frame {call:02X}, {there} there: {number}"),
         (_, []) => unreachable!("an answer has its first byte"),
     }
 }
 
-/// How often each thing was met by traces of these profiles.
-fn tally(profiles: &[Profile]) -> BTreeMap<String, usize> {
-    let mut tally = BTreeMap::new();
+/// What was met by traces of these profiles.
+fn tally(profiles: &[Profile]) -> Tally {
+    let mut tally = Tally::new();
     for profile in profiles {
         let mut card = Card::fresh();
         for line in lines(&trace(*profile, 1, 20_000)) {
-            let before = card.clone();
+            let before = [0, 1, 2, 3].map(|channel| items(&card, channel));
             let answer = answer_line(&mut card, line);
-            let digits = String::from_utf8_lossy(line).to_ascii_uppercase();
-            let frame = bytes_of_field(&digits).unwrap_or_default();
-            *tally.entry(met(&before, &frame, &answer)).or_default() += 1;
+            let name = met(before, &frame_of(line), &answer);
+            *tally.entry(name).or_default() += 1;
         }
     }
     tally
@@ -77,10 +98,66 @@ fn traces_come_to_thirteen_items() {
         }
     }
     assert!(count("read 13, 13 there: 3".to_string()) > 5);
-    let arrived = |there: usize, fate: u8| count(format!("arrival, {there} there: fate {fate}"));
-    assert!(arrived(12, 0) > 500 && arrived(12, 1) > 20);
-    assert!(arrived(13, 2) > 5000 && arrived(13, 1) > 100);
+    let arrived = |there: usize, fate: u8| arrived(&tally, there, fate);
+    let fates = |there| REASONS.iter().map(move |fate| arrived(there, *fate));
+    let nothing_stored = |there| fates(there).sum::<usize>();
+    assert!(arrived(12, 0) > 500 && nothing_stored(12) > 20);
+    assert!(arrived(13, 2) > 5000 && nothing_stored(13) > 100);
     assert_eq!((arrived(12, 2), arrived(13, 0)), (0, 0));
+}
+
+/// "0 and 2 stay": nothing is lost where there is room, nothing is stored where
+/// there is none. Each of the reasons comes to an empty queue and to a full one.
+fn assert_every_fate(tally: &Tally) {
+    assert!(arrived(tally, 0, 0) > 500 && arrived(tally, 13, 2) > 500);
+    assert_eq!((arrived(tally, 0, 2), arrived(tally, 13, 0)), (0, 0));
+    for there in [0, 13] {
+        for fate in REASONS {
+            let often = arrived(tally, there, fate);
+            assert!(often > 20, "{}: {often}", arrival_met(there, fate));
+        }
+    }
+}
+
+#[test]
+fn traces_come_to_every_fate() {
+    let profiles = PROFILES.map(|(_, profile)| profile);
+    assert_every_fate(&tally(&profiles));
+    // The profile that has everything comes to each of them alone, too.
+    let mixed = tally(&[Profile::Mixed]);
+    for fate in REASONS {
+        assert!(arrived(&mixed, 0, fate) > 5 && arrived(&mixed, 13, fate) > 5);
+    }
+}
+
+/// "0 stored" is one item more, and "2 lost" one loss more. With the others no
+/// queue, flag or count changes: "Ignored: nothing changes" and "Discard:
+/// nothing changes"; a flow character sets the transmitter "running or
+/// stopped", and with implied XON a line ending sets it running.
+#[test]
+fn fates_tell_what_changed() {
+    for (name, profile) in PROFILES {
+        let mut card = Card::fresh();
+        for line in lines(&trace(profile, 2, 5000)) {
+            let mut expected = card.clone();
+            let answer = answer_line(&mut card, line);
+            let (&[0x01, channel, ..], &[0, fate]) = (&frame_of(line)[..], &answer[..]) else {
+                continue;
+            };
+            let after = &card.channels[usize::from(channel)];
+            let before = &mut expected.channels[usize::from(channel)];
+            match fate {
+                0 => assert_eq!(after.items().count(), before.items().count() + 1, "{name}"),
+                2 => assert_eq!(after.loss_count, before.loss_count + 1, "{name}"),
+                1 => before.stopped = after.stopped,
+                5 => before.stopped &= !before.settings.implied_xon,
+                _ => {}
+            }
+            if REASONS.contains(&fate) {
+                assert_eq!(card, expected, "{name}, fate {fate}");
+            }
+        }
+    }
 }
 
 /// "service threshold", "1 to 12": one below it, at it, and with request a's
@@ -211,15 +288,34 @@ fn traces_of_reads_dwell_on_the_limits() {
     assert!(count(&|_, _, _, answer| answer.starts_with("00 12 1 36 ")) > 5);
 }
 
-/// Each read with the number of items that were there.
-#[test]
-fn traces_of_reads_come_to_thirteen_items() {
+/// Each call with the number of items that were there, and its answer.
+fn calls_of_reads(seed: u64, lines: usize) -> Vec<(Call, usize, Vec<u8>)> {
     let mut card = Card::fresh();
-    let mut asked_of = Vec::new();
-    for line in lines_of_reads(1, 20_000) {
+    let mut calls = Vec::new();
+    for line in lines_of_reads(seed, lines) {
         let call = Call::of_line(line.as_bytes()).expect("a well-formed line");
         let there = items(&card, CHANNEL);
         let answer = call.answer(&mut card);
+        calls.push((call, there, answer));
+    }
+    calls
+}
+
+#[test]
+fn traces_of_reads_come_to_every_fate() {
+    let mut tally = Tally::new();
+    for (call, there, answer) in calls_of_reads(1, 20_000) {
+        if let (Call::Arrival { .. }, [b'0', b'0', b' ', digit]) = (call, &answer[..]) {
+            *tally.entry(arrival_met(there, digit - b'0')).or_default() += 1;
+        }
+    }
+    assert_every_fate(&tally);
+}
+
+#[test]
+fn traces_of_reads_come_to_thirteen_items() {
+    let mut asked_of = Vec::new();
+    for (call, there, answer) in calls_of_reads(1, 20_000) {
         if let Call::Read { n, .. } = call {
             asked_of.push((n, there, answer.starts_with(b"00")));
         }

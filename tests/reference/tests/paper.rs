@@ -1,9 +1,12 @@
 //! The paper's whole case, its table of stored images, its refusal examples,
 //! and further sentences of the paper, each as a small check.
 
-use reference::card::{Card, Fate, ReadAnswer, Refusal, StateAnswer, FRESH_SETTINGS};
+mod shared;
+
+use reference::card::{Card, Fate, ReadAnswer, Refusal};
 use reference::frames::program;
 use reference::stream::{clean_front, read_stream, StreamRefusal};
+use shared::{card_with, fill, read_all, settings_with, state, BREAK, FRAMING, GOOD, PARITY};
 
 const WHOLE_CASE_INPUT: &str = "\
 0700040100020200010200011113000016
@@ -52,41 +55,6 @@ fn answer_list(input: &str) -> Vec<String> {
     answers(input).lines().map(String::from).collect()
 }
 
-/// The fresh settings but for the fields named.
-fn settings_with(fields: &[(usize, u8)]) -> [u8; 15] {
-    let mut settings = FRESH_SETTINGS;
-    for (field, value) in fields {
-        settings[field - 1] = *value;
-    }
-    settings
-}
-
-fn card_with(fields: &[(usize, u8)]) -> Card {
-    let mut card = Card::fresh();
-    card.settings(0, &settings_with(fields))
-        .expect("good settings");
-    card
-}
-
-/// All the bytes that wait on channel 0.
-fn read_all(card: &mut Card) -> Vec<u8> {
-    let mut buffer = [0xA5; 36];
-    let answer = card.read(0, 12, &mut buffer, 0).expect("a served read");
-    assert!(buffer[answer.bytes..].iter().all(|byte| *byte == 0xA5));
-    buffer[..answer.bytes].to_vec()
-}
-
-fn state(card: &mut Card) -> StateAnswer {
-    card.state(0).expect("a served state")
-}
-
-/// Request a: "A loss now happens at thirteen".
-fn fill(card: &mut Card) {
-    for byte in 0..13 {
-        assert_eq!(card.arrival(0, 0, 0x60 + byte), Ok(Fate::Stored));
-    }
-}
-
 #[test]
 fn whole_case() {
     assert_eq!(answers(WHOLE_CASE_INPUT), WHOLE_CASE_OUTPUT);
@@ -96,34 +64,26 @@ fn whole_case() {
 
 #[test]
 fn table_of_stored_images() {
-    const GOOD: u8 = 0;
-    const PARITY: u8 = 1;
-    const FRAMING: u8 = 2;
-    const BREAK: u8 = 3;
-    type Row = (&'static [(usize, u8)], u8, u8, &'static [u8]);
+    const STORED: Fate = Fate::Stored;
+    type Row = (&'static [(usize, u8)], u8, u8, Fate, &'static [u8]);
     let rows: [Row; 12] = [
-        (&[], GOOD, 0x41, &[0x41]),
-        (&[], BREAK, 0x41, &[0x00]),
-        (&[(2, 0)], BREAK, 0x41, &[]),
-        (&[(1, 4)], BREAK, 0x41, &[0xFF, 0x00, 0x00]),
-        (&[(1, 4)], GOOD, 0xFF, &[0xFF, 0xFF]),
-        (&[(1, 4), (3, 1)], GOOD, 0xFF, &[0x7F]),
-        (&[(1, 4), (3, 1)], PARITY, 0xC1, &[0xFF, 0x00, 0xC1]),
-        (&[(1, 2)], FRAMING, 0x41, &[]),
-        (&[(1, 3)], PARITY, 0x41, &[0x00]),
-        (&[(4, 3)], GOOD, 0x0A, &[0x0D]),
-        (&[(4, 5)], GOOD, 0x0A, &[0x0D]),
-        (&[(4, 6)], GOOD, 0x0D, &[]),
+        (&[], GOOD, 0x41, STORED, &[0x41]),
+        (&[], BREAK, 0x41, STORED, &[0x00]),
+        (&[(2, 0)], BREAK, 0x41, Fate::BreakIgnored, &[]),
+        (&[(1, 4)], BREAK, 0x41, STORED, &[0xFF, 0x00, 0x00]),
+        (&[(1, 4)], GOOD, 0xFF, STORED, &[0xFF, 0xFF]),
+        (&[(1, 4), (3, 1)], GOOD, 0xFF, STORED, &[0x7F]),
+        (&[(1, 4), (3, 1)], PARITY, 0xC1, STORED, &[0xFF, 0x00, 0xC1]),
+        (&[(1, 2)], FRAMING, 0x41, Fate::DamagedDiscarded, &[]),
+        (&[(1, 3)], PARITY, 0x41, STORED, &[0x00]),
+        (&[(4, 3)], GOOD, 0x0A, STORED, &[0x0D]),
+        (&[(4, 5)], GOOD, 0x0A, STORED, &[0x0D]),
+        (&[(4, 6)], GOOD, 0x0D, Fate::LineEndingDiscarded, &[]),
     ];
-    for (fields, kind, byte, image) in rows {
+    for (fields, kind, byte, fate, image) in rows {
         let mut card = card_with(fields);
-        let fate = card.arrival(0, kind, byte).expect("a served arrival");
-        let expected = if image.is_empty() {
-            Fate::NothingToStore
-        } else {
-            Fate::Stored
-        };
-        assert_eq!(fate, expected, "{fields:?} {kind} {byte:02X}");
+        let answer = card.arrival(0, kind, byte);
+        assert_eq!(answer, Ok(fate), "{fields:?} {kind} {byte:02X}");
         assert_eq!(read_all(&mut card), image, "{fields:?} {kind} {byte:02X}");
     }
 }
@@ -274,7 +234,7 @@ fn flags_change_even_when_the_item_is_lost() {
 fn a_swallowed_character_is_not_lost() {
     let mut card = card_with(&[(5, 2)]);
     fill(&mut card);
-    assert_eq!(card.arrival(0, 0, 0x13), Ok(Fate::NothingToStore));
+    assert_eq!(card.arrival(0, 0, 0x13), Ok(Fate::FlowCharacterSwallowed));
     assert_eq!(state(&mut card).stopped, 1);
     assert_eq!(state(&mut card).loss_count, 0);
 }

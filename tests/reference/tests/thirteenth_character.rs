@@ -1,52 +1,14 @@
 //! Request a, "Thirteenth character": its sentences, each as small checks
 //! whose answers are worked out by hand.
 
-use reference::card::{Card, Fate, ReadAnswer, Refusal, FRESH_SETTINGS};
-use reference::frames::program;
+mod shared;
 
-/// The answers to these frames, one string each.
-fn answers(frames: &[String]) -> Vec<String> {
-    let output = program(frames.join("\n").as_bytes());
-    let text = String::from_utf8(output).expect("answers are hexadecimal");
-    text.lines().map(String::from).collect()
-}
-
-/// The answers to the later frames only.
-fn answers_after(first: &[String], later: &[&str]) -> Vec<String> {
-    let later: Vec<String> = later.iter().map(|frame| frame.to_string()).collect();
-    let answers = answers(&[first, &later].concat());
-    answers[first.len()..].to_vec()
-}
-
-/// Good arrivals on channel 0, a frame for each byte.
-fn arrivals(bytes: &[u8]) -> Vec<String> {
-    bytes
-        .iter()
-        .map(|byte| format!("010000{byte:02X}"))
-        .collect()
-}
-
-/// a to l.
-fn twelve() -> Vec<String> {
-    arrivals(b"abcdefghijkl")
-}
-
-/// a to m, the last one behind the twelve.
-fn thirteen() -> Vec<String> {
-    arrivals(b"abcdefghijklm")
-}
+use reference::card::{Card, Fate, ReadAnswer, Refusal};
+use shared::{answers, answers_after, arrivals, settings_frame, thirteen, twelve};
 
 /// n is lost, and m gets the flag.
 fn thirteen_and_a_loss() -> Vec<String> {
     arrivals(b"abcdefghijklmn")
-}
-
-/// The frame of fresh settings but for the field named, for channel 0.
-fn settings_frame(field: usize, value: u8) -> String {
-    let mut settings = FRESH_SETTINGS;
-    settings[field - 1] = value;
-    let digits: String = settings.iter().map(|byte| format!("{byte:02X}")).collect();
-    format!("0700{digits}")
 }
 
 /// "so thirteen-character lines lose their last digit on our box but not on
@@ -230,11 +192,11 @@ fn a_read_asks_for_at_most_12() {
 /// 8, and thirteen items reach 12.
 #[test]
 fn the_threshold_is_at_most_12() {
-    let refused = settings_frame(8, 13);
+    let refused = settings_frame(&[(8, 13)]);
     assert_eq!(answers_after(&[], &[&refused]), ["0508"]);
     assert_eq!(answers_after(&thirteen(), &[&refused]), ["0508"]);
     let mut first = thirteen();
-    first.push(settings_frame(8, 12));
+    first.push(settings_frame(&[(8, 12)]));
     assert_eq!(
         answers_after(&first, &["08", "0100006E", "08", "020001", "08"]),
         ["0000", "0002", "0000", "00010061", "0000"]
@@ -249,10 +211,10 @@ fn the_threshold_is_at_most_12() {
 /// [...] stay": of the held item too, with its flag.
 #[test]
 fn settings_leave_the_held_item() {
-    let mut first = vec![settings_frame(1, 4)];
+    let mut first = vec![settings_frame(&[(1, 4)])];
     first.extend(twelve());
     first.extend(arrivals(&[0xFF, 0x41]));
-    first.push(settings_frame(3, 1));
+    first.push(settings_frame(&[(3, 1)]));
     assert_eq!(
         answers_after(&first, &["01000042", "0A00", "02000C", "020001"]),
         [
@@ -280,13 +242,13 @@ fn reset_drops_the_held_item() {
 /// it is the held one; a swallowed character leaves the place free.
 #[test]
 fn flow_characters_at_the_held_place() {
-    let mut swallowed = vec![settings_frame(5, 2)];
+    let mut swallowed = vec![settings_frame(&[(5, 2)])];
     swallowed.extend(twelve());
     assert_eq!(
         answers_after(&swallowed, &["01000013", "0A00", "0100006D", "01000011"]),
         ["0001", "000C00010000", "0000", "0001"]
     );
-    let mut stored = vec![settings_frame(5, 1)];
+    let mut stored = vec![settings_frame(&[(5, 1)])];
     stored.extend(twelve());
     assert_eq!(
         answers_after(&stored, &["01000013", "0A00", "01000011", "0A00"]),

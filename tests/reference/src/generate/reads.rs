@@ -1,6 +1,7 @@
 //! Random traces for reads into lent buffers of any length and place.
 
 use super::*;
+use crate::card::CR;
 use crate::reads::{Call, CHANNEL};
 
 /// The longest lent buffer of a trace: room for the longest read, and some
@@ -118,11 +119,12 @@ impl ReadsGenerator {
         if self.random().chance(1, 2) {
             self.write_settings();
         }
-        match self.random().weighted(&[55, 10, 20, 15]) {
+        match self.random().weighted(&[55, 10, 20, 15, 10]) {
             0 => self.full_or_nearly_full(),
             1 => self.flags_throughout(),
             2 => self.few_items(),
-            _ => self.settings_between(),
+            3 => self.settings_between(),
+            _ => self.nothing_stored(),
         }
     }
 
@@ -207,6 +209,36 @@ impl ReadsGenerator {
         self.write_reads(reads);
     }
 
+    /// Request b: "Say why nothing was stored". Each of its reasons can come,
+    /// to a full queue, to an empty one, or to what there is; the reads show
+    /// that nothing is flagged by that.
+    fn nothing_stored(&mut self) {
+        match self.random().below(3) {
+            0 => self.fill(MOST_ITEMS),
+            1 => self.read_all(),
+            _ => {}
+        }
+        let settings = self.settings_of_all_reasons();
+        self.write(Call::Settings(settings));
+        let arrivals = self.random().between(2, 8);
+        for _ in 0..arrivals {
+            let call = self.arrival_of_a_reason();
+            self.write(call);
+        }
+        let reads = self.random().between(1, 2);
+        self.write_reads(reads);
+    }
+
+    /// "1 flow character swallowed, 3 damaged discarded, 4 break ignored, 5
+    /// line ending discarded". Now and then a damaged character is passed, and
+    /// has the fate of a good one.
+    fn settings_of_all_reasons(&mut self) -> Vec<u8> {
+        let damaged_characters = self.random().one_of(&[1, 2, 2]);
+        let line_endings = self.random().between(4, 7) as u8;
+        let fields = [(1, damaged_characters), (2, 0), (4, line_endings), (5, 2)];
+        self.traffic.good_settings_with(&fields).to_vec()
+    }
+
     // -----------------------------------------------------------------------
     // Arrivals
     // -----------------------------------------------------------------------
@@ -245,6 +277,16 @@ impl ReadsGenerator {
         Call::Arrival { kind, byte }
     }
 
+    /// A flow character or a CR, of any kind: with strip off, the byte that
+    /// strip makes CR of is stored.
+    fn arrival_of_a_reason(&mut self) -> Call {
+        let settings = &self.traffic.known(CHANNEL).settings;
+        let bytes = [settings.xon(), settings.xoff(), CR, CR + 0x80];
+        let kind = self.random().below(4) as u8;
+        let byte = self.random().one_of(&bytes);
+        Call::Arrival { kind, byte }
+    }
+
     /// Refusal 2: "kind above 3"
     fn arrival_of_bad_kind(&mut self) -> Call {
         let kind = self.traffic.byte_above(3);
@@ -268,6 +310,15 @@ impl ReadsGenerator {
             if !served && self.random().chance(4, 5) {
                 self.write_again_with_room(read);
             }
+        }
+    }
+
+    /// Reads until nothing waits.
+    fn read_all(&mut self) {
+        while self.waiting() > 0 {
+            let n = RECEIVE_QUEUE_DEPTH;
+            let read = self.read_with_room(n, LONGEST_IMAGE * n);
+            self.write(read);
         }
     }
 
