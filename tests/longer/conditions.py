@@ -664,18 +664,20 @@ def nothing_stored():
     def told(fate, test):
         return lambda r: r.is_call(1) and r.answer == [0, fate] and test(r)
 
-    def at(fate, number):
-        return told(fate, lambda r: len(r.old.receive_queue) == number)
+    def swallows(r):
+        return r.old.field(5) == 2
 
-    swallows = lambda r: r.old.field(5) == 2        # noqa: E731
-    drops = lambda r: r.old.field(4) >= 4           # noqa: E731
+    def drops(r):
+        return r.old.field(4) >= 4
+
     for fate, name in ((FLOW_SWALLOWED, 'flow character swallowed'), (DAMAGED_DISCARDED, 'damaged discarded'), (BREAK_IGNORED, 'break ignored'),
                        (ENDING_DISCARDED, 'line ending discarded')):
         for number in (0, 12, FULL):
-            yield f'{fate}, {name}, {number} there', at(fate, number)
-    for name, was, fate in (('XON', True, FLOW_SWALLOWED), ('XOFF', False, FLOW_SWALLOWED)):
-        yield f'{name} swallowed, and obeyed', told(fate, lambda r, n=name, w=was: r.happened(n) and r.old.stopped == w and r.new.stopped != w)
-        yield f'{name} by strip swallowed', told(fate, lambda r, n=name: r.happened(n) and r.frame[3] > 127)
+            yield f'{fate}, {name}, {number} there', there(number, told(fate, lambda r: True))
+    for name, stopped in (('XON', True), ('XOFF', False)):
+        yield f'{name} swallowed, and obeyed', told(FLOW_SWALLOWED, lambda r, n=name, s=stopped: r.happened(n) and
+                                                    r.old.stopped == s and r.new.stopped != s)
+        yield f'{name} by strip swallowed', told(FLOW_SWALLOWED, lambda r, n=name: r.happened(n) and r.frame[3] > 127)
     yield 'CR by strip discarded', told(ENDING_DISCARDED, lambda r: r.frame[3] > 127)
     for row in (4, 5, 6, 7):
         yield f'CR discarded in row {row}', told(ENDING_DISCARDED, lambda r, row=row: r.old.field(4) == row)
