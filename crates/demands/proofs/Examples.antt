@@ -10,6 +10,16 @@ use Rattle.paper.specs.Frames.{callOf, digit, lineCall}
 use Rattle.demands.specs.Examples.{Ranges, Crossed, Table, Endings, LossStays, ReadCases, ReaderCases, WholeCase, TransmitCase, QueueCase, HeldCase, NothingStoredCase}
 use Rattle.demands.specs.Demands.{TwoHosts}
 
+-- what the examples compute with: to unfold one of these two names is to unfold all that its own line names. Settings and arrivals on a channel:
+called : Unit {0}
+unfolding badField goodItem step1 step2 stripped woken step4 step5 flowRuling step6 ending step7 good arrival channelStep
+called = tt
+
+-- any line of a trace
+traced : Unit {0}
+unfolding called transmitDepth loaded transmitStep noRoom picked step callOf digit lineCall
+traced = tt
+
 pub ranges : Ranges
 unfolding badField
 ranges = record { lowest = refl; highest = refl; above = refl; below = refl }
@@ -19,18 +29,18 @@ unfolding badField
 crossed = refl
 
 pub table : Table
-unfolding badField goodItem step1 step2 stripped woken step4 step5 flowRuling step6 ending step7 good arrival channelStep
+unfolding called
 table = refl
 
 pub endings : Endings
-unfolding badField goodItem step1 step2 stripped woken step4 step5 flowRuling step6 ending step7 good arrival channelStep
+unfolding called
 endings = (refl, refl)
 
 pub loss-stays : LossStays
 loss-stays = (refl, refl, refl)
 
 pub read-cases : ReadCases
-unfolding badField goodItem step1 step2 stripped woken step4 step5 flowRuling step6 ending step7 good arrival noRoom channelStep
+unfolding called noRoom
 read-cases = record { whole = refl; too-short = refl; at-the-end = refl; beyond-it = refl; too-many = refl; inside = refl }
 
 pub reader-cases : ReaderCases
@@ -38,25 +48,25 @@ unfolding decode cleanFront
 reader-cases = record { nothing = refl; whole = refl; broken = refl; cut = refl; cut-later = refl; short = refl; front = refl }
 
 pub whole-case : WholeCase
-unfolding badField goodItem step1 step2 stripped woken step4 step5 flowRuling step6 ending step7 good arrival transmitDepth loaded transmitStep noRoom channelStep picked step callOf digit lineCall
+unfolding traced
 whole-case = refl
 
 pub transmit-case : TransmitCase
-unfolding badField goodItem step1 step2 stripped woken step4 step5 flowRuling step6 ending step7 good arrival transmitDepth loaded transmitStep noRoom channelStep picked step callOf digit lineCall
+unfolding traced
 transmit-case = refl
 
 pub queue-case : QueueCase
-unfolding badField goodItem step1 step2 stripped woken step4 step5 flowRuling step6 ending step7 good arrival transmitDepth loaded transmitStep noRoom channelStep picked step callOf digit lineCall
+unfolding traced
 queue-case = refl
 
 pub held-case : HeldCase
-unfolding badField goodItem step1 step2 stripped woken step4 step5 flowRuling step6 ending step7 good arrival transmitDepth loaded transmitStep noRoom channelStep picked step callOf digit lineCall
+unfolding traced
 held-case = refl
 
 pub nothing-stored-case : NothingStoredCase
-unfolding badField goodItem step1 step2 stripped woken step4 step5 flowRuling step6 ending step7 good arrival transmitDepth loaded transmitStep noRoom channelStep picked step callOf digit lineCall
+unfolding traced
 nothing-stored-case = refl
 
 pub two-hosts : TwoHosts
-unfolding badField goodItem step1 step2 stripped woken step4 step5 flowRuling step6 ending step7 good arrival noRoom channelStep picked step
+unfolding called noRoom picked step
 two-hosts = (refl, refl)
