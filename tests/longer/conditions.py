@@ -409,9 +409,6 @@ def full_queue():
     for name in ('XON', 'XOFF'):
         yield f'a swallowed {name} is not lost', lambda r, n=name: r.happened(n) and len(r.old.receive_queue) == FULL and \
             r.answer == [0, FLOW_SWALLOWED]
-    for name, event, fate in (('a discarded character', 'damaged discarded', DAMAGED_DISCARDED), ('an ignored break', 'break ignored', BREAK_IGNORED),
-                              ('a line ending that gives nothing', 'step 7', ENDING_DISCARDED)):
-        yield f'{name} is not lost', lambda r, e=event, f=fate: r.happened(e) and len(r.old.receive_queue) == FULL and r.answer == [0, f]
     yield 'the newest item gets the flag', at_full(lambda r: not any(i[2] for i in r.old.receive_queue) and r.new.receive_queue[-1][2] == 1)
     yield 'the flag is set again', at_full(lambda r: r.old.receive_queue[-1][2] == 1)
     yield 'a flag on an older item stays', at_full(lambda r: any(i[2] for i in r.old.receive_queue[:-1]) and not r.old.receive_queue[-1][2])

@@ -514,24 +514,12 @@ def flags_at_a_full_queue():
         state(2)
 
 
-def nothing_to_store_at_a_full_queue():
-    # the queue is still full. Swallowed characters are not lost: the count stays
-    settings(2, flow=2, literal=1)
-    arrive(2, XOFF)
-    state(2)
-    arrive(2, XON)
-    state(2)
-    # implied XON of a lost character
+def implied_xon_at_a_full_queue():
+    # the queue is still full. XOFF is swallowed, and a lost character sets running
     settings(2, flow=2, implied=1)
     arrive(2, XOFF)
     state(2)
     arrive(2, 0x41)
-    state(2)
-    # nothing to store is told before the queue is looked at
-    settings(2, damaged=DISCARD, breaks=0, endings=4)
-    arrive(2, CR)
-    arrive(2, 0x41, kind=PARITY)
-    arrive(2, 0x41, kind=BREAK)
     state(2)
     read(2)
     state(2)
@@ -1052,7 +1040,7 @@ SECTIONS = [
     fresh_card, picks, thresholds, whole_case,
     ranges_of_settings, length_of_settings, crossed_settings, taking_settings,
     damaged_characters, damaged_specials, good_ff, line_endings, flow_characters, implied_xon,
-    literal_next, between_mark_and_character, flags_at_a_full_queue, nothing_to_store_at_a_full_queue,
+    literal_next, between_mark_and_character, flags_at_a_full_queue, implied_xon_at_a_full_queue,
     why_nothing_was_stored, reasons_of_passed_and_literal_characters,
     losses, many_losses, thirteenth_character, held_item, reads, loads,
     stopped_and_held, newlines, owed_newlines, specials, specials_and_settings, special_refusals, one_reset_of_four,
