@@ -2,9 +2,11 @@
 ghost use mathlib.Core.Path.{_≡_};
 ghost use mathlib.Core.Logic.{_≢_};
 ghost use mathlib.Core.Bool.{not, _&&_, _||_};
+ghost use mathlib.Core.Option.{none};
 ghost use lib.Dec.{eqb};
+ghost use lib.ListN.{getD};
 ghost use Rattle.paper.specs.Arrival as steps;
-ghost use Rattle.rules.specs.Table.{Entry, comesOut};
+ghost use Rattle.rules.specs.Table.{column, comesOut};
 use paper::Flags;
 use paper::Item;
 use paper::Outcome;
@@ -17,10 +19,12 @@ const CR: u8 = 0x0D;
 
 const NL: u8 = 0x0A;
 
-// "The eight rows stand in the program as constants.": what CR gives and what NL gives, by the value of field 4; 0 where nothing comes out.
-const CR_GIVES: [u8; 8] = [CR, CR, NL, NL, 0, 0, 0, 0];
+// 02 e: "Work the eight line-ending rows out from the three bits of the value (4 drops CR, 2 turns CR into NL, 1 turns NL into CR)."
+const DROPS_CR: u8 = 4;
 
-const NL_GIVES: [u8; 8] = [NL, CR, NL, CR, NL, CR, NL, CR];
+const CR_INTO_NL: u8 = 2;
+
+const NL_INTO_CR: u8 = 1;
 
 // "Storing a good FF in mark mode makes a doubled item; any other good byte makes a plain item."
 fn good_item(s: Settings, b: u8) -> Item
@@ -174,14 +178,26 @@ fn step6(s: Settings, running: bool, b: u8) -> Outcome
     step7(s, running, b)
 }
 
-// "one lookup": what a column of the rows has for a value of field 4, and nothing for a value that is not one of the eight.
-fn look_up(column: [u8; 8], value: u8) -> u8
-    ensures { λ r. ⌜ Entry column value r ⌝ }
+// What the value's row gives for CR, and for NL where b is not CR: 0 where nothing comes out. A value above 7 has no row, and nothing comes out.
+fn row_gives(value: u8, b: u8) -> u8
+    ensures { λ r. ⌜ comesOut r ≡ column b (getD steps.rows value (steps.row none none)) ⌝ }
 {
-    if value < 8 {
-        return column[value as usize];
+    if value > 7 {
+        return 0;
     }
-    0
+    if b == CR {
+        if value & DROPS_CR != 0 {
+            return 0;
+        }
+        if value & CR_INTO_NL != 0 {
+            return NL;
+        }
+        return CR;
+    }
+    if value & NL_INTO_CR != 0 {
+        return CR;
+    }
+    NL
 }
 
 // "store what comes out"
@@ -199,10 +215,10 @@ fn line_ending(s: Settings, b: u8) -> Ruling
     ensures { λ r. ⌜ r ≡ steps.endingRuling s (steps.ending s b) ⌝ }
 {
     if b == CR {
-        return store_out(s, look_up(CR_GIVES, s.endings));
+        return store_out(s, row_gives(s.endings, CR));
     }
     if b == NL {
-        return store_out(s, look_up(NL_GIVES, s.endings));
+        return store_out(s, row_gives(s.endings, NL));
     }
     Ruling::Store(good_item(s, b))
 }

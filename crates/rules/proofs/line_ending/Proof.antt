@@ -1,6 +1,4 @@
-use mathlib.Core.Path.{refl}
 use Rattle.paper.specs.Arrival.{ending}
-use Rattle.rules.proofs.Rows.{follows}
 use borrow.Author.Tests.{ne-eqb}
 use borrow.Author.Needs.{needs}
 use Rattle.rules.proofs.line_ending.Statement.{statement}
@@ -8,11 +6,11 @@ use Rattle.rules.proofs.line_ending.Tie as tie
 
 returns : tie.Need-returns
 unfolding ending
-returns c = rw (c .before .before .if1 .taken, c .store-out .ensures, follows (λ r. r .cr) (c .before .look-up .ensures) refl refl)
+returns c = rw (c .before .before .if1 .taken, c .store-out .ensures, c .before .row-gives .ensures)
 
 returns-2 : tie.Need-returns-2
 unfolding ending
-returns-2 c = rw (c .before .before .if2 .taken, c .store-out2 .ensures, follows (λ r. r .nl) (c .before .look-up2 .ensures) refl refl)
+returns-2 c = rw (c .before .before .if2 .taken, c .store-out2 .ensures, c .before .row-gives2 .ensures)
 
 returns-3 : tie.Need-returns-3
 unfolding ending
