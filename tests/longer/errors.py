@@ -45,6 +45,10 @@ ERRORS = [
      'return if self.held_item.is_some() { Fate::Lost } else { Fate::BreakIgnored };'),
     ('a swallowed XOFF that is CR told as a line ending', '            Fate::FlowCharacterSwallowed\n',
      '            if byte == CR { Fate::LineEndingDiscarded } else { Fate::FlowCharacterSwallowed }\n'),
+    # request e: "4 drops CR, 2 turns CR into NL, 1 turns NL into CR"
+    ('a 4 that drops NL', 'NL => nl_gives,', 'NL => cr_gives.and(nl_gives),'),
+    ('a CR to be dropped that 2 turns into NL', 'CR => cr_gives,',
+     'CR if cr_gives.is_none() && self.settings.line_endings & 2 != 0 => Some(NL),\nCR => cr_gives,'),
 ]
 
 # the frame program alone: without the generators it is compiled in less than a second

@@ -28,14 +28,20 @@ workedOut (suc count) value = fromBits value ∷ workedOut count (suc value)
 agree : workedOut 8 0 ≡ rows
 agree = refl
 
+-- each row that was worked out is that of its value
 worked-out : (count value further : ℕ) → further < count → getD (workedOut count value) further (row none none) ≡ fromBits (value + further)
 worked-out zero value further h = absurd (not-suc-le-zero h)
 worked-out (suc count) value zero h = ap fromBits (sym (add-zero value))
-worked-out (suc count) value (suc further) h = worked-out count (suc value) further (le-of-suc-le-suc h) ∙ ap fromBits (suc-add value further ∙ sym (add-suc value further))
+worked-out (suc count) value (suc further) h =
+    worked-out count (suc value) further (le-of-suc-le-suc h)
+    ∙ ap fromBits (suc-add value further ∙ sym (add-suc value further))
 
 -- a value of the eight has the row that its bits give
 pub row-of-bits : (value : ℕ) → value ≤ 7 → getD rows value (row none none) ≡ fromBits value
-row-of-bits value h = ap (λ (l : List Row). getD l value (row none none)) (sym agree) ∙ worked-out 8 0 value (suc-le-suc h) ∙ ap fromBits (zero-add value)
+row-of-bits value h =
+    ap (λ (l : List Row). getD l value (row none none)) (sym agree)
+    ∙ worked-out 8 0 value (suc-le-suc h)
+    ∙ ap fromBits (zero-add value)
 
 -- a value above 7 has no row: nothing comes out for CR, and nothing for NL
 pub no-row : (b value : ℕ) → 7 < value → column b (getD rows value (row none none)) ≡ none

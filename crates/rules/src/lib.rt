@@ -210,7 +210,7 @@ fn store_out(s: Settings, out: u8) -> Ruling
     Ruling::Store(good_item(s, out))
 }
 
-// CR and NL by one lookup; any other byte comes out as it is.
+// CR and NL by their row; any other byte comes out as it is.
 fn line_ending(s: Settings, b: u8) -> Ruling
     ensures { λ r. ⌜ r ≡ steps.endingRuling s (steps.ending s b) ⌝ }
 {
