@@ -336,6 +336,11 @@ pub struct StateAnswer {
 
 /// "Line endings (CR 0D, NL 0A), one lookup and no second one". Each row:
 /// what CR gives and what NL gives, for the values 0 to 7.
+///
+/// Request e has the box "Work the eight line-ending rows out from the three
+/// bits of the value", for its "page for constants is full". There is no such
+/// page here, and "No answer changes": so this stays the paper's table, another
+/// way to the same answers.
 const LINE_ENDINGS: [(Option<u8>, Option<u8>); 8] = [
     (Some(CR), Some(NL)), // 0
     (Some(CR), Some(CR)), // 1

@@ -1,7 +1,7 @@
 //! An independent reference implementation of the paper
-//! "Exact rules for the build: four serial channels", and of two of the
-//! "Further requests from customers": a, "Thirteenth character", and b, "Say
-//! why nothing was stored".
+//! "Exact rules for the build: four serial channels", and of three of the
+//! "Further requests from customers": a, "Thirteenth character", b, "Say why
+//! nothing was stored", and e, "Constants page full", which changes no answer.
 //! Comments in quotation marks quote the paper; the words of a request follow
 //! its name.
 

@@ -1,7 +1,7 @@
 //! The generators give the same output for the same seed, as many lines as
 //! asked, and input that the programs answer line by line.
 
-use reference::card::Card;
+use reference::card::{Card, FlowCharacters, CR, NL};
 use reference::fields::bytes_of_field;
 use reference::frames::{answer_line, lines, program};
 use reference::generate::{reads, streams, trace, Profile, PROFILES};
@@ -157,6 +157,42 @@ fn fates_tell_what_changed() {
                 assert_eq!(card, expected, "{name}, fate {fate}");
             }
         }
+    }
+}
+
+/// The entry of the line-ending table that a good CR or NL looks up, its value
+/// and its character; none for one that steps 4 to 6 stop before.
+fn entry_looked_up(card: &Card, frame: &[u8]) -> Option<(usize, u8)> {
+    let [0x01, channel @ 0..=3, 0, character @ (CR | NL)] = *frame else {
+        return None;
+    };
+    let channel = &card.channels[usize::from(channel)];
+    let settings = &channel.settings;
+    let literal_next = settings.literal_next && character == settings.literal_next_character;
+    let flow_character = settings.flow_characters != FlowCharacters::Off
+        && [settings.xon(), settings.xoff()].contains(&character);
+    let stopped_before = channel.literal_mark || literal_next || flow_character;
+    (!stopped_before).then_some((settings.line_endings, character))
+}
+
+/// Request e: "Work the eight line-ending rows out from the three bits of the
+/// value". The traces come to each entry of each row, and to a fate that tells
+/// it: "2 lost" doesn't tell what came out.
+#[test]
+fn traces_come_to_every_entry_of_the_line_endings() {
+    let mut tally = BTreeMap::new();
+    for (_, profile) in PROFILES {
+        let mut card = Card::fresh();
+        for line in lines(&trace(profile, 1, 20_000)) {
+            let entry = entry_looked_up(&card, &frame_of(line));
+            if answer_line(&mut card, line) != [0, 2] {
+                *tally.entry(entry).or_insert(0) += 1;
+            }
+        }
+    }
+    for entry in (0..=7).flat_map(|value| [(value, CR), (value, NL)]) {
+        let often = tally.get(&Some(entry)).copied().unwrap_or(0);
+        assert!(often > 100, "{entry:?}: {often}");
     }
 }
 
