@@ -2,13 +2,8 @@
 use mathlib.Core.Option.{Option, none, some}
 use Prim.Native.Nat.{ℕ}
 use lib.Dec.{eqb}
-use Rattle.paper.specs.Arrival.{CR, Row}
 use Rattle.paper.specs.Choice.{if_then_else_}
 
 -- what a byte stands for: 0 where nothing comes out
 abbrev pub comesOut : ℕ → Option ℕ
 comesOut out = if eqb out 0 then none else some out
-
--- the column of CR for CR, and that of NL for any other byte
-abbrev pub column : ℕ → Row → Option ℕ
-column b r = if eqb b CR then r .cr else r .nl

@@ -1,12 +1,10 @@
 // 01, "One arrival", step by step, by value.
 ghost use mathlib.Core.Path.{_≡_};
 ghost use mathlib.Core.Logic.{_≢_};
-ghost use mathlib.Core.Bool.{not, _&&_, _||_};
-ghost use mathlib.Core.Option.{none};
+ghost use mathlib.Core.Bool.{true, not, _&&_, _||_};
 ghost use lib.Dec.{eqb};
-ghost use lib.ListN.{getD};
 ghost use Rattle.paper.specs.Arrival as steps;
-ghost use Rattle.rules.specs.Table.{column, comesOut};
+ghost use Rattle.rules.specs.Table.{comesOut};
 use paper::Flags;
 use paper::Item;
 use paper::Outcome;
@@ -178,23 +176,24 @@ fn step6(s: Settings, running: bool, b: u8) -> Outcome
     step7(s, running, b)
 }
 
-// What the value's row gives for CR, and for NL where b is not CR: 0 where nothing comes out. A value above 7 has no row, and nothing comes out.
-fn row_gives(value: u8, b: u8) -> u8
-    ensures { λ r. ⌜ comesOut r ≡ column b (getD steps.rows value (steps.row none none)) ⌝ }
+// What CR or NL gives by its row: 0 where nothing comes out. A value above 7 has no row, and nothing comes out.
+fn row_gives(s: Settings, b: u8) -> u8
+    requires { ⌜ (eqb b steps.CR || eqb b steps.NL) ≡ true ⌝ }
+    ensures { λ r. ⌜ comesOut r ≡ steps.ending s b ⌝ }
 {
-    if value > 7 {
+    if s.endings > 7 {
         return 0;
     }
     if b == CR {
-        if value & DROPS_CR != 0 {
+        if s.endings & DROPS_CR != 0 {
             return 0;
         }
-        if value & CR_INTO_NL != 0 {
+        if s.endings & CR_INTO_NL != 0 {
             return NL;
         }
         return CR;
     }
-    if value & NL_INTO_CR != 0 {
+    if s.endings & NL_INTO_CR != 0 {
         return CR;
     }
     NL
@@ -215,10 +214,10 @@ fn line_ending(s: Settings, b: u8) -> Ruling
     ensures { λ r. ⌜ r ≡ steps.endingRuling s (steps.ending s b) ⌝ }
 {
     if b == CR {
-        return store_out(s, row_gives(s.endings, CR));
+        return store_out(s, row_gives(s, CR));
     }
     if b == NL {
-        return store_out(s, row_gives(s.endings, NL));
+        return store_out(s, row_gives(s, NL));
     }
     Ruling::Store(good_item(s, b))
 }
