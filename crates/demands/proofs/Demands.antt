@@ -1,6 +1,6 @@
 -- Every demand of specs/Demands.antt, with its proof.
 use Rattle.demands.specs.Demands.{Demands}
-use Rattle.demands.proofs.Examples.{ranges, crossed, table, endings, loss-stays, read-cases, reader-cases, whole-case, transmit-case, queue-case, held-case, nothing-stored-case, two-hosts}
+use Rattle.demands.proofs.Examples.{ranges, crossed, table, endings, loss-stays, read-cases, reader-cases, whole-case, transmit-case, queue-case, held-case, nothing-stored-case, order-cases, merge-case, two-hosts, excepted}
 use Rattle.demands.proofs.Reader.{reader, reader-call, clean-front}
 use Rattle.demands.proofs.ReadBack.{read-back}
 use Rattle.demands.proofs.Fifo.{first-in-first-out, loss-count}
@@ -9,6 +9,7 @@ use Rattle.demands.proofs.ReadingMore.{reading-more}
 use Rattle.demands.proofs.Names.{names-unseen}
 use Rattle.demands.proofs.Isolation.{isolation}
 use Rattle.demands.proofs.Picks.{four-picks}
+use Rattle.demands.proofs.Order.{neighbours, merges}
 use Rattle.demands.proofs.Refusals.{refusals}
 use Rattle.demands.proofs.Lines.{lines}
 use Rattle.demands.proofs.Bounds.{bounds}
@@ -28,6 +29,8 @@ demands =
       queue-case = queue-case;
       held-case = held-case;
       nothing-stored-case = nothing-stored-case;
+      order-cases = order-cases;
+      merge-case = merge-case;
       reader = reader;
       reader-call = reader-call;
       clean-front = clean-front;
@@ -40,6 +43,9 @@ demands =
       names-unseen = names-unseen;
       isolation = isolation;
       four-picks = four-picks;
+      neighbours = neighbours;
+      merges = merges;
+      excepted = excepted;
       refusals = refusals;
       lines = lines;
       bounds = bounds;

@@ -11,6 +11,7 @@ pub mod Refusals
 pub mod Bounds
 pub mod QueueRuns
 pub mod Port
+pub mod Order
 pub mod Fifo
 pub mod ReadBack
 pub mod TwoQueues

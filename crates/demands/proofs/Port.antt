@@ -16,7 +16,7 @@ use Rattle.paper.specs.Transmitter.{loaded}
 use Rattle.paper.specs.Channel.{Channel, fresh, ChannelCall, written, channelStep}
 use Rattle.paper.specs.Card.{Card, freshCard, Call, on, pick, at, with, step}
 use Rattle.paper.specs.Run.{Named, run, end}
-use Rattle.demands.specs.History.{Entry, port, queueEntry, queueHistory}
+use Rattle.demands.specs.History.{Entry, entryOf, port, queueEntry, queueHistory}
 use Rattle.demands.specs.Demands.{history, after}
 use Rattle.demands.proofs.Cases.{declined, loading, other, Deed, refusal, arrival, reading, change, renewal, showing, sending, deed, by-number, by-pick}
 use Rattle.demands.proofs.Isolation.{isolation}
@@ -24,17 +24,14 @@ use Rattle.demands.proofs.QueueRuns.{emptyQueue, QueueStep, placed, tak
 
 -- A CHANNEL'S OWN HISTORY, from one channel to another
 
-abbrev entryOf : {A S : Type 0} → Channel A → A → ChannelCall → Given S → Entry A
-entryOf h a c g = record { before = h; by = record { name = a; call = c }; answer = g .answer; lent = g .lent }
-
 pub data ChannelRun {A : Type 0} (z : Size) : Channel A → List (Entry A) → Channel A → Type 0 where
   finished : {h : Channel A} → ChannelRun z h [] h
   call : {h h′ : Channel A} {a : A} {c : ChannelCall} {g : Given (Channel A)} {es : List (Entry A)}
-      → Deed z a h c g → ChannelRun z (g .next) es h′ → ChannelRun z h (entryOf h a c g ∷ es) h′
+      → Deed z a h c g → ChannelRun z (g .next) es h′ → ChannelRun z h (entryOf h g (record { name = a; call = c }) ∷ es) h′
 
 module _ {A : Type 0} where
   module _ (z : Size) (a : A) (K : Card A) where
-    step-length : (c : Call) → length (step z a K c .next .channels) ≡ length (K .channels)
+    pub step-length : (c : Call) → length (step z a K c .next .channels) ≡ length (K .channels)
     step-length (on n c) =
         by-number z a K (λ g. length (g .next .channels) ≡ length (K .channels)) n c (λ _. refl) (λ _. length-set (K .channels) n _)
     step-length pick = by-pick z a K (λ g. length (g .next .channels) ≡ length (K .channels)) refl (λ _ _. refl)
@@ -54,7 +51,7 @@ module _ {A : Type 0} where
       here c =
           rw (eq-eqb n n refl)
           (by-number z a K
-          (λ (g : Given (Card A)). ChannelRun z (at K n) (entryOf (at K n) a c g ∷ port n (run z (g .next) cs)) (at (end z (g .next) cs) n))
+          (λ (g : Given (Card A)). ChannelRun z (at K n) (entryOf (at K n) g (record { name = a; call = c }) ∷ port n (run z (g .next) cs)) (at (end z (g .next) cs) n))
           n c (λ above. absurd (omega arith))
           λ _.
           let h = channelStep z a (at K n) c .next in
@@ -98,7 +95,7 @@ module _ {X : Type 0} where
 
 module _ {A : Type 0} {z : Size} where
   meets : {a : A} {h : Channel A} {c : ChannelCall} {g : Given (Channel A)}
-      → Deed z a h c g → QueueStep (z .depth) Full (h .queue) (queueEntry (entryOf h a c g)) (g .next .queue)
+      → Deed z a h c g → QueueStep (z .depth) Full (h .queue) (queueEntry (entryOf h g (record { name = a; call = c }))) (g .next .queue)
   unfolding loaded
   meets {a} (refusal _ _ e) = rw e (left a _)
   meets {a} (arrival kind b _) = placed a _

@@ -1,7 +1,7 @@
 -- DEMAND 3: on a port the same events give the same rulings, the arrivals numbered; and so reading more never loses more.
 use mathlib.Core.Path.{_≡_, refl, sym, ap, ap₂, _∙_, subst⁻¹}
 use mathlib.Core.Bool.{Bool, true, false, true≢false}
-use mathlib.Core.List.{List, [], _∷_, _++_}
+use mathlib.Core.List.{List, [], _∷_, _++_, map}
 use mathlib.Core.Option.{none}
 use Prim.Native.Nat.{ℕ, suc, _+_, _<_}
 use native.Mathlib.Omega.{arith}
@@ -18,7 +18,7 @@ use Rattle.paper.specs.Given.{Given}
 use Rattle.paper.specs.declared.Settings.{Settings}
 use Rattle.paper.specs.declared.Flags.{Flags}
 use Rattle.paper.specs.declared.Outcome.{Outcome}
-use Rattle.demands.specs.History.{Report, arrivals, Event, arrived, changed, Entry, port, events, queueHistory, NoReset, Before, numbered, Each, nil, cons}
+use Rattle.demands.specs.History.{Report, arrivals, Event, arrived, changed, Entry, entryOf, port, events, queueHistory, NoReset, Before, numbered, Each, nil, cons}
 use Rattle.demands.specs.Demands.{history, ReadingMore}
 use Rattle.demands.proofs.Choices.{chosen}
 use Rattle.demands.proofs.Cases.{declined, loading, other, refusal, arrival, reading, change, renewal, showing, sending}
@@ -40,7 +40,7 @@ numbers z n k (on m c ∷ cs) K = go (eqb m n) (λ (j : ℕ). numbers z n j cs g
 
     go : (t : Bool) → ((j : ℕ) → Numbered j (port n (run z (g .next) (numbered n j cs))))
         → Numbered k
-        ((if t then record { before = at K n; by = record { name = k; call = c }; answer = g .answer; lent = g .lent } ∷ [] else [])
+        (map (entryOf (at K n) g) (if t then record { name = k; call = c } ∷ [] else [])
         ++ port n (run z (g .next) (numbered n (k + (if t then arrivals c else 0)) cs)))
     go true ih = (refl, ih (k + arrivals c))
     go false ih = rw (add-zero k) (ih k)

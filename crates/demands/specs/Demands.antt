@@ -8,7 +8,7 @@ use lib.ListN.{length, getD, take, replicate}
 use Rattle.paper.specs.Settings.{Size, cardSize}
 use Rattle.paper.specs.Queue.{oldest, itemsOf, overruns}
 use Rattle.paper.specs.Stream.{Character, images, sort, byte, front, Decoded, decode, cleanFront}
-use Rattle.paper.specs.Channel.{Channel, ChannelCall, arrive, read, state, lent, written}
+use Rattle.paper.specs.Channel.{Channel, ChannelCall, arrive, read, reset, state, lent, written}
 use Rattle.paper.specs.Card.{Card, freshCard, Call, on, pick, step, at, ready}
 use Rattle.paper.specs.Run.{Named, run, seen, end, nameless}
 use Rattle.paper.specs.Bounds.{Sound}
@@ -18,9 +18,9 @@ use Rattle.paper.specs.declared.Reading.the-variants.{Items, Unread}
 use Rattle.paper.specs.declared.Fate.the-variants.{Stored, Lost}
 use Rattle.paper.specs.declared.Answer.the-variants.{Handed, Shown, Picked}
 use Rattle.demands.specs.Text.{text}
-use Rattle.demands.specs.Examples.{Ranges, Crossed, Table, Endings, LossStays, ReadCases, ReaderCases, WholeCase, TransmitCase, QueueCase, HeldCase, NothingStoredCase}
+use Rattle.demands.specs.Examples.{Ranges, Crossed, Table, Endings, LossStays, ReadCases, ReaderCases, WholeCase, TransmitCase, QueueCase, HeldCase, NothingStoredCase, OrderCases, MergeCase}
 use Rattle.demands.specs.Marks.{characterOf, stream, Accepts}
-use Rattle.demands.specs.History.{isRefused, Entry, port, events, Marking, queueHistory, sinceReset, NoReset, handed, bytesFound, stored, lost, between, Before, befores, numbered, Each, NoWorse, NoPick}
+use Rattle.demands.specs.History.{isRefused, Entry, callsOn, port, events, Marking, queueHistory, sinceReset, NoReset, handed, bytesFound, stored, lost, between, Before, befores, numbered, Each, NoWorse, NoPick}
 use Rattle.demands.specs.Conditions.{conditions, FirstDue}
 use Rattle.demands.specs.Spelling.{Calls}
 
@@ -186,6 +186,36 @@ FourPicks =
     ready K n ≡ true → ready K₁ n ≡ true → ready K₂ n ≡ true → ready K₃ n ≡ true
     → (step z a K pick .answer ≡ Picked n) ⊎ ((step z a K₁ pick .answer ≡ Picked n) ⊎ ((step z a K₂ pick .answer ≡ Picked n) ⊎ (step z a K₃ pick .answer ≡ Picked n)))
 
+-- ORDER BETWEEN PORTS (02 l): "Our logger merges four ports' calls and may swap neighbours."
+
+-- "the same card and the same two answers in either order", and the same lent bytes: each call brings its own
+pub record EitherOrder {A : Type 0} (z : Size) (K : Card A) (a b : A) (c d : Call) : Type 0 where
+  pub card : step z b (step z a K c .next) d .next ≡ step z a (step z b K d .next) c .next
+  pub answer : step z a K c .answer ≡ step z a (step z b K d .next) c .answer
+  pub lent : step z a K c .lent ≡ step z a (step z b K d .next) c .lent
+  pub other-answer : step z b (step z a K c .next) d .answer ≡ step z b K d .answer
+  pub other-lent : step z b (step z a K c .next) d .lent ≡ step z b K d .lent
+
+-- "two calls naming different channels", "refusals included": any two numbers, also above 3, and any card
+abbrev pub Neighbours : Type 1
+Neighbours = (A : Type 0) (z : Size) (K : Card A) (a b : A) (m n : ℕ) (c d : ChannelCall) → m ≢ n → EitherOrder z K a b (on m c) (on n d)
+
+-- two lists of calls leave the same card, and on each port the same calls went the same way
+pub record Alike {A : Type 0} (z : Size) (K : Card A) (cs ds : List (Named A Call)) : Type 0 where
+  pub card : end z K cs ≡ end z K ds
+  pub ports : (n : ℕ) → port n (run z K cs) ≡ port n (run z K ds)
+
+-- so any two merges of the same ports' lists of calls, without picks, each port's calls in their order
+abbrev pub Merges : Type 1
+Merges =
+    (A : Type 0) (z : Size) (K : Card A) (cs ds : List (Named A Call)) → NoPick cs → NoPick ds
+    → ((n : ℕ) → callsOn n cs ≡ callsOn n ds) → Alike z K cs ds
+
+-- "Picks ... are excepted", and two calls on one channel are not spoken of: they need not come to the same (Examples.OrderCases)
+pub record Excepted : Type 0 where
+  pub picks : ¬ EitherOrder {A = Unit} cardSize freshCard tt tt pick (on 0 (arrive 0 65))
+  pub one-channel : ¬ EitherOrder {A = Unit} cardSize freshCard tt tt (on 0 reset) (on 0 (arrive 0 65))
+
 -- ALL OF THEM; proofs/Demands.antt has the proof
 pub record Demands : Type 1 where
   pub ranges : Ranges
@@ -200,6 +230,8 @@ pub record Demands : Type 1 where
   pub queue-case : QueueCase
   pub held-case : HeldCase
   pub nothing-stored-case : NothingStoredCase
+  pub order-cases : OrderCases
+  pub merge-case : MergeCase
   pub refusals : Refusals
   pub lines : Lines
   pub bounds : Bounds
@@ -215,3 +247,6 @@ pub record Demands : Type 1 where
   pub names-unseen : NamesUnseen
   pub isolation : Isolation
   pub four-picks : FourPicks
+  pub neighbours : Neighbours
+  pub merges : Merges
+  pub excepted : Excepted

@@ -8,13 +8,16 @@ use lib.ListN.{set, take, replicate}
 use Rattle.paper.specs.Settings.{cardSize, freshBytes, badField}
 use Rattle.paper.specs.Queue.{itemsOf, overrun}
 use Rattle.paper.specs.Stream.{images, decode, cleanFront}
-use Rattle.paper.specs.Channel.{Channel, fresh, arrive, read, takeSettings, channelStep}
+use Rattle.paper.specs.Channel.{Channel, fresh, ChannelCall, arrive, read, takeSettings, reset, state, channelStep}
+use Rattle.paper.specs.Card.{freshCard, Call, on, pick, step}
+use Rattle.paper.specs.Run.{Named, end, nameless}
 use Rattle.paper.specs.Frames.{newline, program}
 use Rattle.paper.specs.declared.Refusal.the-variants.{TooMany, NoRoom, BrokenStream, ShortOutput}
 use Rattle.paper.specs.declared.Reading.the-variants.{Items, Unread}
 use Rattle.paper.specs.declared.Answer.{Answer}
 use Rattle.paper.specs.declared.Answer.the-variants.{Refused, Handed}
 use Rattle.demands.specs.Text.{text}
+use Rattle.demands.specs.History.{callsOn}
 
 -- SETTINGS
 
@@ -422,3 +425,32 @@ NothingStoredCase =
     ∷ "0100000D" ⇒ "0002"
     ∷ "0A00" ⇒ "000C00010002"
     ∷ [])
+
+-- ORDER BETWEEN PORTS
+
+-- what one buffer of three bytes holds in the end, lent to a read of one character on m and then to one on n, where 41 waits on 0 and 42 on 1
+abbrev pub sharedBuffer : (m n : ℕ) → List ℕ
+sharedBuffer m n =
+    let K = end cardSize freshCard (nameless (on 0 (arrive 0 0x41) ∷ on 1 (arrive 0 0x42) ∷ [])) in
+    let g = step cardSize tt K (on m (read 1 0 (replicate 3 9))) in
+    step cardSize tt (g .next) (on n (read 1 0 (g .lent))) .lent
+
+-- 02 l, "Picks, and calls lent the same buffer, are excepted", worked out by hand. A pick on a fresh card finds none, and the place stays: when characters
+-- wait on 0 and 1, the next names 0. Made behind the arrival on 0 it names 0, and the next names 1: another answer and another card. A buffer that two
+-- reads share has in the end the byte of the later one
+pub record OrderCases : Type 0 where
+  pub pick-first : Answered ("08" ⇒ "00FF" ∷ "01000041" ⇒ "0000" ∷ "01010042" ⇒ "0000" ∷ "08" ⇒ "0000" ∷ [])
+  pub arrival-first : Answered ("01000041" ⇒ "0000" ∷ "08" ⇒ "0000" ∷ "01010042" ⇒ "0000" ∷ "08" ⇒ "0001" ∷ [])
+  pub read-0-first : sharedBuffer 0 1 ≡ 0x42 ∷ 9 ∷ 9 ∷ []
+  pub read-1-first : sharedBuffer 1 0 ≡ 0x41 ∷ 9 ∷ 9 ∷ []
+
+-- what ports 0 to 4 are asked by a list of calls
+abbrev pub askedOf : List Call → List (List ChannelCall)
+askedOf cs = map (λ (n : ℕ). map (λ (c : Named Unit ChannelCall). c .call) (callsOn n (nameless cs))) (0 ∷ 1 ∷ 2 ∷ 3 ∷ 4 ∷ [])
+
+-- two merges of the same lists: an arrival and a state on 0, a reset on 1, a state on 4; a pick is on none
+abbrev pub MergeCase : Type 0
+MergeCase =
+    let lists = (arrive 0 0x41 ∷ state ∷ []) ∷ (reset ∷ []) ∷ [] ∷ [] ∷ (state ∷ []) ∷ [] in
+    (askedOf (on 0 (arrive 0 0x41) ∷ on 4 state ∷ on 1 reset ∷ on 0 state ∷ []) ≡ lists)
+    × (askedOf (on 1 reset ∷ on 0 (arrive 0 0x41) ∷ on 0 state ∷ pick ∷ on 4 state ∷ []) ≡ lists)

@@ -8,6 +8,7 @@ use Prim.Native.Nat.{ℕ, _+_}
 use lib.Dec.{eqb, ltb}
 use lib.ListN.{take, drop}
 use Rattle.paper.specs.Choice.{if_then_else_}
+use Rattle.paper.specs.Given.{Given}
 use Rattle.paper.specs.Arrival.{arrival, marking}
 use Rattle.paper.specs.Queue.{Slot, oldest, namesOf}
 use Rattle.paper.specs.Channel.{Channel, ChannelCall, arrive, read, takeSettings, reset, state, transmit}
@@ -76,17 +77,23 @@ pub record Entry (A : Type 0) : Type 0 where
   pub lent : List ℕ
 
 module _ {A : Type 0} where
-  abbrev pub onPort : ℕ → Moment A → Call → List (Entry A)
-  onPort n m (on k c) =
-      if eqb k n
-      then record { before = at (m .before) n; by = record { name = m .by .name; call = c }; answer = m .gave .answer; lent = m .gave .lent } ∷ []
-      else []
-  onPort n m pick = []
+  -- a call, if it names port n
+  abbrev pub callOn : ℕ → A → Call → List (Named A ChannelCall)
+  callOn n a (on k c) = if eqb k n then record { name = a; call = c } ∷ [] else []
+  callOn n a pick = []
 
-  -- the calls on port n
+  -- the calls that name port n, in order: as they were made
+  abbrev pub callsOn : ℕ → List (Named A Call) → List (Named A ChannelCall)
+  callsOn n [] = []
+  callsOn n (c ∷ cs) = callOn n (c .name) (c .call) ++ callsOn n cs
+
+  abbrev pub entryOf : {S : Type 0} → Channel A → Given S → Named A ChannelCall → Entry A
+  entryOf h g c = record { before = h; by = c; answer = g .answer; lent = g .lent }
+
+  -- and as they went
   abbrev pub port : ℕ → List (Moment A) → List (Entry A)
   port n [] = []
-  port n (m ∷ ms) = onPort n m (m .by .call) ++ port n ms
+  port n (m ∷ ms) = map (entryOf (at (m .before) n) (m .gave)) (callOn n (m .by .name) (m .by .call)) ++ port n ms
 
   -- marking was on at every arrival
   abbrev pub Marking : List (Entry A) → Type 0
