@@ -1,16 +1,21 @@
 -- The examples, by computation over the definitions.
-use mathlib.Core.Path.{_≡_, refl, ap}
+use mathlib.Core.Path.{refl, ap}
+use mathlib.Core.Bool.{true≢false}
+use mathlib.Core.List.{List, [], map}
 use Prim.Native.Nat.{ℕ}
-use native.Mathlib.Omega.{arith}
-use lib.ListN.{length}
+use lib.Dec.{eqb}
+use lib.ListN.{length, getD}
 use Rattle.paper.specs.Settings.{badField}
 use Rattle.paper.specs.Arrival.{goodItem, step1, step2, stripped, woken, step4, step5, flowRuling, step6, ending, step7, good, arrival}
 use Rattle.paper.specs.Stream.{decode, cleanFront}
 use Rattle.paper.specs.Transmitter.{transmitDepth, loaded, transmitStep}
-use Rattle.paper.specs.Channel.{noRoom, channelStep}
+use Rattle.paper.specs.Channel.{Channel, noRoom, channelStep}
 use Rattle.paper.specs.Card.{Card, at, picked, step}
+use Rattle.paper.specs.Numbers.{numbers}
 use Rattle.paper.specs.Frames.{callOf, digit, lineCall}
+use Rattle.paper.specs.declared.Answer.{Answer}
 use Rattle.demands.specs.Examples.{Ranges, Crossed, Table, Endings, LossStays, ReadCases, ReaderCases, WholeCase, TransmitCase, QueueCase, HeldCase, NothingStoredCase, OrderCases, MergeCase}
+use Rattle.demands.specs.History.{Entry}
 use Rattle.demands.specs.Demands.{TwoHosts, Excepted}
 
 -- what the examples compute with: to unfold one of these two names is to unfold all that its own line names. Settings and arrivals on a channel:
@@ -81,11 +86,18 @@ pub two-hosts : TwoHosts
 unfolding called noRoom picked step
 two-hosts = (refl, refl)
 
--- by the pick's place, and by what waits
+-- how many wait on a channel
+abbrev waiting : {A : Type 0} → Channel A → ℕ
+waiting h = length (h .queue .slots)
+
+-- by the pick's number; by what waits in the end; by the pick's place; by what waits at the second call on the port
 pub excepted : Excepted
 unfolding called picked step
 excepted =
     record {
-      picks = λ e. let places : _≡_ {A = ℕ} 3 0 = ap (λ (K : Card Unit). K .place) (e .card) in absurd (omega arith);
-      one-channel = λ e. let waiting : _≡_ {A = ℕ} 1 0 = ap (λ (K : Card Unit). length (at K 0 .queue .slots)) (e .card) in absurd (omega arith);
+      picks = λ e. true≢false (ap (λ (a : Answer). eqb (getD (numbers a []) 1 0) 0xFF) (e .answer));
+      one-channel = λ e. true≢false (ap (λ (K : Card Unit). eqb (waiting (at K 0)) 1) (e .card));
+      merged-picks = λ e. true≢false (ap (λ (K : Card Unit). eqb (K .place) 3) (e .card));
+      order-lost = λ e.
+          true≢false (ap (λ (es : List (Entry Unit)). eqb (getD (map (λ (x : Entry Unit). waiting (x .before)) es) 1 0) 0) (e .ports 0));
     }

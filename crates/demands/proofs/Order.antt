@@ -64,18 +64,16 @@ module _ {A : Type 0} (z : Size) where
         (g .answer ≡ h .answer) × (g .lent ≡ h .lent)
     alone m n c d apart = isolation .alone A z (c .name) K (made K n d .next) m (c .call) (sym (others K m n d apart))
 
+    same-card : (m n : ℕ) (c d : Named A ChannelCall) → m ≢ n → both K m n c d ≡ both K n m d c
+    same-card m n c d apart =
+        ap₂ (λ (l : List (Channel A)) (p : ℕ). record { channels = l; place = p })
+        (ext-getD fresh _ _ (long m n c d ∙ sym (long n m d c)) (λ i _. everywhere m n c d apart i)) (place m n c d ∙ sym (place n m d c))
+
     either-order : (m n : ℕ) (c d : Named A ChannelCall) → m ≢ n → EitherOrder z K (c .name) (d .name) (on m (c .call)) (on n (d .call))
     either-order m n c d apart =
         let one = alone m n c d apart in
         let other = alone n m d c (λ same. apart (sym same)) in
-        record {
-          card = ap₂ (λ (l : List (Channel A)) (p : ℕ). record { channels = l; place = p })
-              (ext-getD fresh _ _ (long m n c d ∙ sym (long n m d c)) (λ i _. everywhere m n c d apart i)) (place m n c d ∙ sym (place n m d c));
-          answer = one .0;
-          lent = one .1;
-          other-answer = sym (other .0);
-          other-lent = sym (other .1);
-        }
+        record { card = same-card m n c d apart; answer = one .0; lent = one .1; other-answer = sym (other .0); other-lent = sym (other .1) }
 
 pub neighbours : Neighbours
 neighbours A z K a b m n c d apart = either-order z K m n (record { name = a; call = c }) (record { name = b; call = d }) apart
@@ -133,25 +131,24 @@ module _ {A : Type 0} (z : Size) where
     where
       go : (t : Bool) → eqb m n ≡ t → wentOn n K m c ≡ wentOn n (made z K k d .next) m c
       go true e =
-          let same = alone z K m k c d apart in
-          rw (← eqb-true m n e, sym (others z K m k d apart), same .0, same .1)
+          let same = either-order z K m k c d apart in
+          rw (← eqb-true m n e, sym (others z K m k d apart), same .answer, same .lent)
       go false e = rw e
 
-  swap : (m k : ℕ) (c d : Named A ChannelCall) → m ≢ k → (cs : List (Named A Call)) (K : Card A)
-      → Alike z K (named m c ∷ named k d ∷ cs) (named k d ∷ named m c ∷ cs)
-  swap m k c d apart cs K =
-      let card = either-order z K m k c d apart .card in
-      let L = made z K k d .next in
-      record {
-        card = ap (λ (L : Card A). end z L cs) card;
-        ports = λ n.
-            ap₂ (λ (x y : List (Entry A)). x ++ (y ++ port n (run z (both z K m k c d) cs))) (went-alike n K m k c d apart)
-            (sym (went-alike n K k m d c (λ same. apart (sym same))))
-            ∙ exchange (wentOn n L m c) (wentOn n K k d) _ (⊎-elim (λ e. inl (rw e)) (λ e. inr (rw e)) (one-of-two m k n c d apart))
-            ∙ ap (λ (L′ : Card A). wentOn n K k d ++ (wentOn n L m c ++ port n (run z L′ cs))) card;
-      }
+  module _ (m k : ℕ) (c d : Named A ChannelCall) (apart : m ≢ k) (cs : List (Named A Call)) (K : Card A) where
+    swap-port : (n : ℕ) → port n (run z K (named m c ∷ named k d ∷ cs)) ≡ port n (run z K (named k d ∷ named m c ∷ cs))
+    swap-port n =
+        let x = wentOn n (made z K k d .next) m c in
+        let y = wentOn n K k d in
+        ap₂ (λ (x y : List (Entry A)). x ++ (y ++ port n (run z (both z K m k c d) cs))) (went-alike n K m k c d apart)
+        (sym (went-alike n K k m d c (λ same. apart (sym same))))
+        ∙ exchange x y _ (⊎-elim (λ e. inl (rw e)) (λ e. inr (rw e)) (one-of-two m k n c d apart))
+        ∙ ap (λ (L : Card A). y ++ (x ++ port n (run z L cs))) (either-order z K m k c d apart .card)
 
--- MERGES
+    swap : Alike z K (named m c ∷ named k d ∷ cs) (named k d ∷ named m c ∷ cs)
+    swap = record { card = ap (λ (L : Card A). end z L cs) (either-order z K m k c d apart .card); ports = swap-port }
+
+  -- MERGES
 
   -- ds comes to the same as a call on port m, and the rest behind it
   record Pulled (m : ℕ) (c : Named A ChannelCall) (ds : List (Named A Call)) : Type 0 where

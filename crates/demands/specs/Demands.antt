@@ -211,10 +211,13 @@ Merges =
     (A : Type 0) (z : Size) (K : Card A) (cs ds : List (Named A Call)) → NoPick cs → NoPick ds
     → ((n : ℕ) → callsOn n cs ≡ callsOn n ds) → Alike z K cs ds
 
--- "Picks ... are excepted", and two calls on one channel are not spoken of: they need not come to the same (Examples.OrderCases)
+-- "Picks ... are excepted", and of two calls on one channel nothing is said: a pick and an arrival do not come to the same in either order (worked out in
+-- Examples.OrderCases), nor do a reset and an arrival on one channel; nor do two lists in which they change places
 pub record Excepted : Type 0 where
   pub picks : ¬ EitherOrder {A = Unit} cardSize freshCard tt tt pick (on 0 (arrive 0 65))
   pub one-channel : ¬ EitherOrder {A = Unit} cardSize freshCard tt tt (on 0 reset) (on 0 (arrive 0 65))
+  pub merged-picks : ¬ Alike cardSize freshCard (nameless (pick ∷ on 0 (arrive 0 65) ∷ [])) (nameless (on 0 (arrive 0 65) ∷ pick ∷ []))
+  pub order-lost : ¬ Alike cardSize freshCard (nameless (on 0 state ∷ on 0 (arrive 0 65) ∷ [])) (nameless (on 0 (arrive 0 65) ∷ on 0 state ∷ []))
 
 -- ALL OF THEM; proofs/Demands.antt has the proof
 pub record Demands : Type 1 where
