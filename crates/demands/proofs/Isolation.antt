@@ -5,15 +5,16 @@ use mathlib.Core.List.{List, [], _∷_}
 use Prim.Native.Nat.{ℕ, zero, suc}
 use native.Mathlib.Omega.{arith}
 use lib.Dec.{ltb}
-use lib.ListN.{length, set, getD}
+use lib.ListN.{length, set, getD, length-set}
 use lib.Seq.{getD-set-other}
 use Rattle.paper.specs.Choice.{if_then_else_}
 use Rattle.paper.specs.Given.{Given, refused}
+use Rattle.paper.specs.Settings.{Size}
 use Rattle.paper.specs.Channel.{Channel, fresh, ChannelCall, lent, channelStep}
-use Rattle.paper.specs.Card.{Card, step, at, put}
+use Rattle.paper.specs.Card.{Card, Call, on, pick, step, at, put}
 use Rattle.paper.specs.declared.Refusal.the-variants.{BadChannel}
 use Rattle.demands.specs.Demands.{Isolation}
-use Rattle.demands.proofs.Cases.{by-number}
+use Rattle.demands.proofs.Cases.{by-number, by-pick}
 
 -- what is stored at one place of two lists of one length is found in both or in neither
 found-alike : {X : Type 0} (k l : List X) (n : ℕ) (x d : X) → length k ≡ length l → getD (set k n x) n d ≡ getD (set l n x) n d
@@ -35,6 +36,12 @@ module _ {A : Type 0} (K L : Card A) (n : ℕ) (c : ChannelCall) (g : Given (Cha
       → at ((if above then refused BadChannel K (lent c) else put K n g) .next) n ≡ at ((if above then refused BadChannel L (lent c) else put L n g) .next) n
   next long e true = e
   next long e false = found-alike (K .channels) (L .channels) n (g .next) fresh long
+
+-- there are as many channels as before
+pub step-length : {A : Type 0} (z : Size) (a : A) (K : Card A) (c : Call) → length (step z a K c .next .channels) ≡ length (K .channels)
+step-length z a K (on n c) =
+    by-number z a K (λ g. length (g .next .channels) ≡ length (K .channels)) n c (λ _. refl) (λ _. length-set (K .channels) n _)
+step-length z a K pick = by-pick z a K (λ g. length (g .next .channels) ≡ length (K .channels)) refl (λ _ _. refl)
 
 pub isolation : Isolation
 unfolding step

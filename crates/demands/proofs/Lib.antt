@@ -5,13 +5,13 @@ pub mod Examples
 pub mod Reader
 pub mod Lines
 pub mod Isolation
+pub mod Order
 pub mod ToldCounts
 pub mod Picks
 pub mod Refusals
 pub mod Bounds
 pub mod QueueRuns
 pub mod Port
-pub mod Order
 pub mod Fifo
 pub mod ReadBack
 pub mod TwoQueues

@@ -15,8 +15,7 @@ use Rattle.paper.specs.Card.{Card, Call, on, pick, at, step}
 use Rattle.paper.specs.Run.{Named, run, end}
 use Rattle.demands.specs.History.{Entry, entryOf, callOn, callsOn, port, isPick, NoPick}
 use Rattle.demands.specs.Demands.{EitherOrder, Neighbours, Alike, Merges}
-use Rattle.demands.proofs.Isolation.{isolation}
-use Rattle.demands.proofs.Port.{step-length}
+use Rattle.demands.proofs.Isolation.{step-length, isolation}
 
 -- TWO CALLS, by isolation alone
 

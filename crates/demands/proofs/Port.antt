@@ -19,7 +19,7 @@ use Rattle.paper.specs.Run.{Named, run, end}
 use Rattle.demands.specs.History.{Entry, entryOf, port, queueEntry, queueHistory}
 use Rattle.demands.specs.Demands.{history, after}
 use Rattle.demands.proofs.Cases.{declined, loading, other, Deed, refusal, arrival, reading, change, renewal, showing, sending, deed, by-number, by-pick}
-use Rattle.demands.proofs.Isolation.{isolation}
+use Rattle.demands.proofs.Isolation.{step-length, isolation}
 use Rattle.demands.proofs.QueueRuns.{emptyQueue, QueueStep, placed, taken, renewed, left, QueueRun, ended, met, Full}
 
 -- A CHANNEL'S OWN HISTORY, from one channel to another
@@ -31,11 +31,6 @@ pub data ChannelRun {A : Type 0} (z : Size) : Channel A → List (Entry A) → C
 
 module _ {A : Type 0} where
   module _ (z : Size) (a : A) (K : Card A) where
-    pub step-length : (c : Call) → length (step z a K c .next .channels) ≡ length (K .channels)
-    step-length (on n c) =
-        by-number z a K (λ g. length (g .next .channels) ≡ length (K .channels)) n c (λ _. refl) (λ _. length-set (K .channels) n _)
-    step-length pick = by-pick z a K (λ g. length (g .next .channels) ≡ length (K .channels)) refl (λ _ _. refl)
-
     -- a pick alters no channel
     pick-at : (n : ℕ) → at (step z a K pick .next) n ≡ at K n
     pick-at n = by-pick z a K (λ g. at (g .next) n ≡ at K n) refl (λ _ _. refl)
