@@ -80,7 +80,7 @@ unfolding traced
 order-cases = record { pick-first = refl; arrival-first = refl; read-0-first = refl; read-1-first = refl }
 
 pub merge-case : MergeCase
-merge-case = (refl, refl)
+merge-case = (refl, refl, refl)
 
 pub two-hosts : TwoHosts
 unfolding called noRoom picked step

@@ -200,7 +200,7 @@ pub record EitherOrder {A : Type 0} (z : Size) (K : Card A) (a b : A) (c d : Cal
 abbrev pub Neighbours : Type 1
 Neighbours = (A : Type 0) (z : Size) (K : Card A) (a b : A) (m n : ℕ) (c d : ChannelCall) → m ≢ n → EitherOrder z K a b (on m c) (on n d)
 
--- two lists of calls leave the same card, and on each port the same calls went the same way
+-- two lists of calls leave the same card, and each port's calls find the same channel and get the same answers and lent bytes, in their order
 pub record Alike {A : Type 0} (z : Size) (K : Card A) (cs ds : List (Named A Call)) : Type 0 where
   pub card : end z K cs ≡ end z K ds
   pub ports : (n : ℕ) → port n (run z K cs) ≡ port n (run z K ds)

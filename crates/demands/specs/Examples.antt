@@ -448,9 +448,10 @@ pub record OrderCases : Type 0 where
 abbrev pub askedOf : List Call → List (List ChannelCall)
 askedOf cs = map (λ (n : ℕ). map (λ (c : Named Unit ChannelCall). c .call) (callsOn n (nameless cs))) (0 ∷ 1 ∷ 2 ∷ 3 ∷ 4 ∷ [])
 
--- two merges of the same lists: an arrival and a state on 0, a reset on 1, a state on 4; a pick is on none
+-- two merges of the same lists, an arrival and a state on 0, a reset on 1, a state on 4; and a pick, which is on no port
 abbrev pub MergeCase : Type 0
 MergeCase =
     let lists = (arrive 0 0x41 ∷ state ∷ []) ∷ (reset ∷ []) ∷ [] ∷ [] ∷ (state ∷ []) ∷ [] in
     (askedOf (on 0 (arrive 0 0x41) ∷ on 4 state ∷ on 1 reset ∷ on 0 state ∷ []) ≡ lists)
-    × (askedOf (on 1 reset ∷ on 0 (arrive 0 0x41) ∷ on 0 state ∷ pick ∷ on 4 state ∷ []) ≡ lists)
+    × (askedOf (on 1 reset ∷ on 0 (arrive 0 0x41) ∷ on 0 state ∷ on 4 state ∷ []) ≡ lists)
+    × (askedOf (pick ∷ []) ≡ replicate 5 [])

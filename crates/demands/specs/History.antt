@@ -82,7 +82,7 @@ module _ {A : Type 0} where
   callOn n a (on k c) = if eqb k n then record { name = a; call = c } ∷ [] else []
   callOn n a pick = []
 
-  -- the calls that name port n, in order: as they were made
+  -- the calls that name port n, in order, as they were made
   abbrev pub callsOn : ℕ → List (Named A Call) → List (Named A ChannelCall)
   callsOn n [] = []
   callsOn n (c ∷ cs) = callOn n (c .name) (c .call) ++ callsOn n cs
@@ -90,7 +90,7 @@ module _ {A : Type 0} where
   abbrev pub entryOf : {S : Type 0} → Channel A → Given S → Named A ChannelCall → Entry A
   entryOf h g c = record { before = h; by = c; answer = g .answer; lent = g .lent }
 
-  -- and as they went
+  -- the same calls, as they went
   abbrev pub port : ℕ → List (Moment A) → List (Entry A)
   port n [] = []
   port n (m ∷ ms) = map (entryOf (at (m .before) n) (m .gave)) (callOn n (m .by .name) (m .by .call)) ++ port n ms
