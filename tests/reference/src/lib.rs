@@ -1,7 +1,8 @@
 //! An independent reference implementation of the paper
-//! "Exact rules for the build: four serial channels", and of three of the
+//! "Exact rules for the build: four serial channels", and of four of the
 //! "Further requests from customers": a, "Thirteenth character", b, "Say why
-//! nothing was stored", and e, "Constants page full", which changes no answer.
+//! nothing was stored", e, "Constants page full", and l, "Order between ports".
+//! The last two change no answer; l stands in the tests and in a generator.
 //! Comments in quotation marks quote the paper; the words of a request follow
 //! its name.
 

@@ -2,6 +2,7 @@
 //! stream form, the reads form, and the generators of random input for each.
 
 use reference::fields::{bytes_of_field, write_field, FILLING};
+use reference::generate::merges::{self, Merge};
 use reference::generate::{self, streams, Profile};
 use reference::stream::{clean_front, read_stream, StreamRefusal};
 use reference::{account, frames, reads};
@@ -15,7 +16,9 @@ const USAGE: &str = "usage: reference frames
        reference generate PROFILE SEED LINES
        reference streams SEED LINES
        reference generate-reads SEED LINES
-profiles: mixed full marks flow turns settings refused lines picks";
+       reference generate-merge SEED LINES WHICH
+profiles: mixed full marks flow turns settings refused lines picks
+WHICH: 1 or 2";
 
 fn main() -> ExitCode {
     let arguments: Vec<String> = std::env::args().skip(1).collect();
@@ -57,6 +60,12 @@ fn run(arguments: &[String], output: &mut Vec<u8>) -> Result<(), String> {
             let seed = number(seed)?;
             let lines = number(lines)?;
             output.extend(generate::reads::trace(seed, lines as usize));
+        }
+        ["generate-merge", seed, lines, which] => {
+            let which = Merge::named(which).ok_or(USAGE)?;
+            let seed = number(seed)?;
+            let lines = number(lines)?;
+            output.extend(merges::trace(seed, lines as usize, which));
         }
         _ => return Err(USAGE.to_string()),
     }

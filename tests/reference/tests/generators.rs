@@ -1,11 +1,13 @@
 //! The generators give the same output for the same seed, as many lines as
 //! asked, and input that the programs answer line by line.
 
+mod shared;
+
 use reference::card::{Card, FlowCharacters, CR, NL};
-use reference::fields::bytes_of_field;
 use reference::frames::{answer_line, lines, program};
 use reference::generate::{reads, streams, trace, Profile, PROFILES};
 use reference::reads::{program as reads_program, Call, CHANNEL};
+use shared::{frame_of, Tally};
 use std::collections::BTreeMap;
 
 /// Request b: "1 flow character swallowed, 3 damaged discarded, 4 break
@@ -32,15 +34,6 @@ fn traces_have_the_lines_asked_for() {
 fn items(card: &Card, channel: u8) -> usize {
     card.channels[usize::from(channel)].items().count()
 }
-
-/// The bytes of a line, none for a line that is no hexadecimal.
-fn frame_of(line: &[u8]) -> Vec<u8> {
-    let digits = String::from_utf8_lossy(line).to_ascii_uppercase();
-    bytes_of_field(&digits).unwrap_or_default()
-}
-
-/// How often each thing was met.
-type Tally = BTreeMap<String, usize>;
 
 /// What an arrival met: how many items were there before it, and its fate.
 fn arrival_met(there: usize, fate: u8) -> String {

@@ -1,17 +1,19 @@
-//! Seeded random traces for the frame program and the reads form, and cases
-//! for the stream form.
+//! Seeded random traces for the frame program and the reads form, merges of
+//! the ports' frames, and cases for the stream form.
 //!
 //! The generator keeps its idea of the traffic in a reference card that gets
 //! every line it writes.
 
+mod closing;
 mod lines;
+pub mod merges;
 mod plans;
 pub mod reads;
 mod settings;
 mod single;
 pub mod streams;
 
-use crate::card::{Card, Channel, MOST_ITEMS, RECEIVE_QUEUE_DEPTH, TRANSMIT_QUEUE_DEPTH};
+use crate::card::{Card, Channel, CHANNELS, MOST_ITEMS, RECEIVE_QUEUE_DEPTH, TRANSMIT_QUEUE_DEPTH};
 use crate::frames;
 use crate::random::Random;
 use std::collections::VecDeque;

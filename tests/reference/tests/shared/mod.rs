@@ -1,8 +1,13 @@
 //! What several test files share. A file may leave parts of it unused.
 #![allow(dead_code)]
 
-use reference::card::{Card, Fate, StateAnswer, FRESH_SETTINGS, SETTINGS_LENGTH};
+use reference::card::{
+    Card, Fate, Item, StateAnswer, WaitingItem, FRESH_SETTINGS, MOST_ITEMS, SETTINGS_LENGTH,
+    TRANSMIT_QUEUE_DEPTH,
+};
+use reference::fields::bytes_of_field;
 use reference::frames::program;
+use std::collections::BTreeMap;
 
 /// "Kinds: 0 good, 1 parity error, 2 framing error, 3 break"
 pub const GOOD: u8 = 0;
@@ -84,4 +89,51 @@ pub fn answers_after(first: &[String], later: &[&str]) -> Vec<String> {
     let later: Vec<String> = later.iter().map(|frame| frame.to_string()).collect();
     let answers = answers(&[first, &later].concat());
     answers[first.len()..].to_vec()
+}
+
+/// The bytes of a line, none for a line that is no hexadecimal.
+pub fn frame_of(line: &[u8]) -> Vec<u8> {
+    let digits = String::from_utf8_lossy(line).to_ascii_uppercase();
+    bytes_of_field(&digits).unwrap_or_default()
+}
+
+/// How often each thing was met.
+pub type Tally = BTreeMap<String, usize>;
+
+/// What a call can find on its channel.
+pub const FINDS: [&str; 11] = [
+    "thirteen items",
+    "a doubled item",
+    "a damaged item",
+    "an overrun flag",
+    "a loss count",
+    "a literal mark",
+    "a full transmit queue",
+    "a stopped transmitter",
+    "a transmitter held by CTS",
+    "a waiting special",
+    "an owed NL",
+];
+
+/// What a call finds on this channel; nothing where the card has no such one.
+pub fn finds(card: &Card, channel: u8) -> Vec<&'static str> {
+    let Some(channel) = card.channels.get(usize::from(channel)) else {
+        return Vec::new();
+    };
+    let any_item = |wanted: fn(&WaitingItem) -> bool| channel.items().any(wanted);
+    let found = [
+        channel.items().count() == MOST_ITEMS,
+        any_item(|waiting| waiting.item == Item::Doubled),
+        any_item(|waiting| matches!(waiting.item, Item::Damaged(_))),
+        any_item(|waiting| waiting.overrun),
+        channel.loss_count > 0,
+        channel.literal_mark,
+        channel.transmit_queue.len() == TRANSMIT_QUEUE_DEPTH,
+        channel.stopped,
+        channel.settings.cts_holds_the_transmitter && channel.cts == 0,
+        channel.waiting_special.is_some(),
+        channel.owed_nl,
+    ];
+    let rows = FINDS.into_iter().zip(found).filter(|(_, found)| *found);
+    rows.map(|(name, _)| name).collect()
 }
