@@ -211,8 +211,8 @@ Merges =
     (A : Type 0) (z : Size) (K : Card A) (cs ds : List (Named A Call)) → NoPick cs → NoPick ds
     → ((n : ℕ) → callsOn n cs ≡ callsOn n ds) → Alike z K cs ds
 
--- "Picks ... are excepted", and of two calls on one channel nothing is said: a pick and an arrival do not come to the same in either order (worked out in
--- Examples.OrderCases), nor do a reset and an arrival on one channel; nor do two lists in which they change places
+-- "Picks ... are excepted", and of two calls on one channel nothing is said: a pick and an arrival, worked out in Examples.OrderCases, do not come to the
+-- same in either order, and a reset and an arrival on one channel do not; nor do two lists that differ by such a swap
 pub record Excepted : Type 0 where
   pub picks : ¬ EitherOrder {A = Unit} cardSize freshCard tt tt pick (on 0 (arrive 0 65))
   pub one-channel : ¬ EitherOrder {A = Unit} cardSize freshCard tt tt (on 0 reset) (on 0 (arrive 0 65))
