@@ -170,39 +170,31 @@ fn merges_come_to_everything() {
 /// Gives one part of a channel the other channel's value.
 type Part = (&'static str, fn(&mut Channel, &Channel));
 
+macro_rules! part {
+    ($name:literal, $($place:tt)+) => {
+        ($name, |channel, other| channel.$($place)+ = other.$($place)+.clone())
+    };
+}
+
 /// The parts that a channel's closing lines always tell.
 const ALWAYS_TOLD: [Part; 14] = [
     ("receive queue", |channel, other| {
         channel.receive_queue = other.receive_queue.clone();
         channel.held_item = other.held_item.clone();
     }),
-    ("transmit queue", |channel, other| {
-        channel.transmit_queue = other.transmit_queue.clone()
-    }),
-    ("stopped", |channel, other| channel.stopped = other.stopped),
-    ("owed NL", |channel, other| channel.owed_nl = other.owed_nl),
-    ("waiting special", |channel, other| {
-        channel.waiting_special = other.waiting_special
-    }),
-    ("loss count", |channel, other| {
-        channel.loss_count = other.loss_count
-    }),
-    ("field 1", |channel, other| {
-        channel.settings.damaged_characters = other.settings.damaged_characters
-    }),
-    ("field 2", |channel, other| {
-        channel.settings.keep_break = other.settings.keep_break
-    }),
-    ("field 3", |channel, other| {
-        channel.settings.strip = other.settings.strip
-    }),
-    ("field 8", |channel, other| {
-        channel.settings.service_threshold = other.settings.service_threshold
-    }),
-    ("field 11", |channel, other| special(channel, other, 1)),
-    ("field 12", |channel, other| special(channel, other, 2)),
-    ("field 13", |channel, other| special(channel, other, 3)),
-    ("field 14", |channel, other| special(channel, other, 4)),
+    part!("transmit queue", transmit_queue),
+    part!("stopped", stopped),
+    part!("owed NL", owed_nl),
+    part!("waiting special", waiting_special),
+    part!("loss count", loss_count),
+    part!("field 1", settings.damaged_characters),
+    part!("field 2", settings.keep_break),
+    part!("field 3", settings.strip),
+    part!("field 8", settings.service_threshold),
+    part!("field 11", settings.special_characters[0]),
+    part!("field 12", settings.special_characters[1]),
+    part!("field 13", settings.special_characters[2]),
+    part!("field 14", settings.special_characters[3]),
 ];
 
 /// Other parts can be told on some cards only. No call tells the literal-next
@@ -212,36 +204,15 @@ const OFTEN_TOLD: [Part; 9] = [
     ("literal mark", |channel, _| {
         channel.literal_mark ^= channel.settings.literal_next
     }),
-    ("CTS", |channel, other| channel.cts = other.cts),
-    ("field 4", |channel, other| {
-        channel.settings.line_endings = other.settings.line_endings
-    }),
-    ("field 5", |channel, other| {
-        channel.settings.flow_characters = other.settings.flow_characters
-    }),
-    ("field 6", |channel, other| {
-        channel.settings.implied_xon = other.settings.implied_xon
-    }),
-    ("field 7", |channel, other| {
-        channel.settings.literal_next = other.settings.literal_next
-    }),
-    ("field 9", |channel, other| {
-        let holds = other.settings.cts_holds_the_transmitter;
-        channel.settings.cts_holds_the_transmitter = holds
-    }),
-    ("field 10", |channel, other| {
-        channel.settings.nl_sent_as_cr_nl = other.settings.nl_sent_as_cr_nl
-    }),
-    ("field 15", |channel, other| {
-        let character = other.settings.literal_next_character;
-        channel.settings.literal_next_character = character
-    }),
+    part!("CTS", cts),
+    part!("field 4", settings.line_endings),
+    part!("field 5", settings.flow_characters),
+    part!("field 6", settings.implied_xon),
+    part!("field 7", settings.literal_next),
+    part!("field 9", settings.cts_holds_the_transmitter),
+    part!("field 10", settings.nl_sent_as_cr_nl),
+    part!("field 15", settings.literal_next_character),
 ];
-
-fn special(channel: &mut Channel, other: &Channel, number: usize) {
-    let character = other.settings.special_characters[number - 1];
-    channel.settings.special_characters[number - 1] = character;
-}
 
 /// Of so many cards that differ in one part, so many are told apart by the
 /// answers of the closing lines.
