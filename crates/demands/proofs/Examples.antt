@@ -90,13 +90,15 @@ two-hosts = (refl, refl)
 abbrev waiting : {A : Type 0} → Channel A → ℕ
 waiting h = length (h .queue .slots)
 
--- by the pick's number; by what waits in the end; by the pick's place; by what waits at the second call on the port
+-- by the pick's number; by what waits in the end; by what the state shows; by the byte that was read; by the pick's place; by what waits at the second call
 pub excepted : Excepted
-unfolding called picked step
+unfolding called noRoom picked step
 excepted =
     record {
       picks = λ e. true≢false (ap (λ (a : Answer). eqb (getD (numbers a []) 1 0) 0xFF) (e .answer));
-      one-channel = λ e. true≢false (ap (λ (K : Card Unit). eqb (waiting (at K 0)) 1) (e .card));
+      resets = λ e. true≢false (ap (λ (K : Card Unit). eqb (waiting (at K 0)) 1) (e .card));
+      states = λ e. true≢false (ap (λ (a : Answer). eqb (getD (numbers a []) 1 0) 0) (e .answer));
+      reads = λ e. true≢false (ap (λ (bytes : List ℕ). eqb (getD bytes 0 0) 65) (e .lent));
       merged-picks = λ e. true≢false (ap (λ (K : Card Unit). eqb (K .place) 3) (e .card));
       order-lost = λ e.
           true≢false (ap (λ (es : List (Entry Unit)). eqb (getD (map (λ (x : Entry Unit). waiting (x .before)) es) 1 0) 0) (e .ports 0));

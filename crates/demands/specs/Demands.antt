@@ -211,11 +211,16 @@ Merges =
     (A : Type 0) (z : Size) (K : Card A) (cs ds : List (Named A Call)) → NoPick cs → NoPick ds
     → ((n : ℕ) → callsOn n cs ≡ callsOn n ds) → Alike z K cs ds
 
--- "Picks ... are excepted", and of two calls on one channel nothing is said: a pick and an arrival, worked out in Examples.OrderCases, do not come to the
--- same in either order, and a reset and an arrival on one channel do not; nor do two lists that differ by such a swap
+-- "Picks ... are excepted", and of two calls on one channel nothing is said: they need not come to the same in either order. Of a pick and an arrival,
+-- worked out in Examples.OrderCases, answer and card differ. On one channel the card alone differs with a reset and an arrival, an answer alone with a
+-- state and an arrival, the lent bytes alone with two reads of one character where two wait. Nor need two lists that differ by such a swap
 pub record Excepted : Type 0 where
   pub picks : ¬ EitherOrder {A = Unit} cardSize freshCard tt tt pick (on 0 (arrive 0 65))
-  pub one-channel : ¬ EitherOrder {A = Unit} cardSize freshCard tt tt (on 0 reset) (on 0 (arrive 0 65))
+  pub resets : ¬ EitherOrder {A = Unit} cardSize freshCard tt tt (on 0 reset) (on 0 (arrive 0 65))
+  pub states : ¬ EitherOrder {A = Unit} cardSize freshCard tt tt (on 0 state) (on 0 (arrive 0 65))
+  pub reads : let two = end cardSize freshCard (nameless (on 0 (arrive 0 65) ∷ on 0 (arrive 0 66) ∷ [])) in
+      let one = on 0 (read 1 0 (replicate 3 9)) in
+      ¬ EitherOrder cardSize two tt tt one one
   pub merged-picks : ¬ Alike cardSize freshCard (nameless (pick ∷ on 0 (arrive 0 65) ∷ [])) (nameless (on 0 (arrive 0 65) ∷ pick ∷ []))
   pub order-lost : ¬ Alike cardSize freshCard (nameless (on 0 state ∷ on 0 (arrive 0 65) ∷ [])) (nameless (on 0 (arrive 0 65) ∷ on 0 state ∷ []))
 
