@@ -1,6 +1,6 @@
 -- Every demand of specs/Demands.antt, with its proof.
 use Rattle.demands.specs.Demands.{Demands}
-use Rattle.demands.proofs.Examples.{ranges, crossed, table, endings, loss-stays, read-cases, reader-cases, whole-case, transmit-case, queue-case, held-case, nothing-stored-case, order-cases, merge-case, two-hosts, excepted}
+use Rattle.demands.proofs.Examples.{ranges, crossed, table, damaged-table, endings, loss-stays, read-cases, reader-cases, end-cases, number-cases, whole-case, transmit-case, queue-case, held-case, nothing-stored-case, implied-xon-case, literal-mark-case, refusal-case, order-cases, merge-case, two-hosts, excepted}
 use Rattle.demands.proofs.Reader.{reader, reader-call, clean-front}
 use Rattle.demands.proofs.ReadBack.{read-back}
 use Rattle.demands.proofs.Fifo.{first-in-first-out, loss-count}
@@ -12,6 +12,10 @@ use Rattle.demands.proofs.Picks.{four-picks}
 use Rattle.demands.proofs.Order.{neighbours, merges}
 use Rattle.demands.proofs.Refusals.{refusals}
 use Rattle.demands.proofs.Lines.{lines}
+use Rattle.demands.proofs.TextLines.{text-lines}
+use Rattle.demands.proofs.AnswersReadBack.{answers-read-back}
+use Rattle.demands.proofs.Arrivals.{fates, marked}
+use Rattle.demands.proofs.GoesOut.{goes-out}
 use Rattle.demands.proofs.Bounds.{bounds}
 
 pub demands : Demands
@@ -20,24 +24,33 @@ demands =
       ranges = ranges;
       crossed = crossed;
       table = table;
+      damaged-table = damaged-table;
       endings = endings;
       loss-stays = loss-stays;
       read-cases = read-cases;
       reader-cases = reader-cases;
+      end-cases = end-cases;
+      number-cases = number-cases;
       whole-case = whole-case;
       transmit-case = transmit-case;
       queue-case = queue-case;
       held-case = held-case;
       nothing-stored-case = nothing-stored-case;
+      implied-xon-case = implied-xon-case;
+      literal-mark-case = literal-mark-case;
+      refusal-case = refusal-case;
       order-cases = order-cases;
       merge-case = merge-case;
       reader = reader;
       reader-call = reader-call;
       clean-front = clean-front;
+      fates = fates;
+      marked = marked;
       read-back = read-back;
       first-in-first-out = first-in-first-out;
       loss-count = loss-count;
       told-counts = told-counts;
+      goes-out = goes-out;
       reading-more = reading-more;
       two-hosts = two-hosts;
       names-unseen = names-unseen;
@@ -48,5 +61,7 @@ demands =
       excepted = excepted;
       refusals = refusals;
       lines = lines;
+      text-lines = text-lines;
+      answers-read-back = answers-read-back;
       bounds = bounds;
     }

@@ -14,7 +14,7 @@ use Rattle.paper.specs.Card.{Card, at, picked, step}
 use Rattle.paper.specs.Numbers.{numbers}
 use Rattle.paper.specs.Frames.{callOf, digit, lineCall}
 use Rattle.paper.specs.declared.Answer.{Answer}
-use Rattle.demands.specs.Examples.{Ranges, Crossed, Table, Endings, LossStays, ReadCases, ReaderCases, WholeCase, TransmitCase, QueueCase, HeldCase, NothingStoredCase, OrderCases, MergeCase}
+use Rattle.demands.specs.Examples.{Ranges, Crossed, Table, DamagedTable, Endings, LossStays, ReadCases, ReaderCases, EndCases, NumberCases, WholeCase, TransmitCase, QueueCase, HeldCase, NothingStoredCase, ImpliedXonCase, LiteralMarkCase, RefusalCase, OrderCases, MergeCase}
 use Rattle.demands.specs.History.{Entry}
 use Rattle.demands.specs.Demands.{TwoHosts, Excepted}
 
@@ -40,6 +40,10 @@ pub table : Table
 unfolding called
 table = refl
 
+pub damaged-table : DamagedTable
+unfolding called
+damaged-table = refl
+
 pub endings : Endings
 unfolding called
 endings = (refl, refl)
@@ -54,6 +58,13 @@ read-cases = record { whole = refl; too-short = refl; at-the-end = refl; beyond-
 pub reader-cases : ReaderCases
 unfolding decode cleanFront
 reader-cases = record { nothing = refl; whole = refl; broken = refl; cut = refl; cut-later = refl; short = refl; front = refl }
+
+pub end-cases : EndCases
+unfolding traced
+end-cases = record { nothing = refl; newline-alone = refl; unended = refl; half-a-byte = refl }
+
+pub number-cases : NumberCases
+number-cases = record { refusals = refl; handed = refl; shown = refl; all-lost = refl }
 
 pub whole-case : WholeCase
 unfolding traced
@@ -74,6 +85,18 @@ held-case = refl
 pub nothing-stored-case : NothingStoredCase
 unfolding traced
 nothing-stored-case = refl
+
+pub implied-xon-case : ImpliedXonCase
+unfolding traced
+implied-xon-case = refl
+
+pub literal-mark-case : LiteralMarkCase
+unfolding traced
+literal-mark-case = refl
+
+pub refusal-case : RefusalCase
+unfolding traced
+refusal-case = refl
 
 pub order-cases : OrderCases
 unfolding traced

@@ -13,11 +13,11 @@ use Rattle.paper.specs.Choice.{if_then_else_}
 use Rattle.paper.specs.Queue.{Slot, Queue, flagNewest, placeItem, place}
 use Rattle.paper.specs.declared.Ruling.{Ruling}
 use Rattle.paper.specs.declared.Ruling.the-variants.{Store, StoreNothing}
-use Rattle.demands.specs.History.{QueueEntry, NoReset, handed, lossNow, lostOne, lossNext, storedAs, stored, lost}
+use Rattle.demands.specs.History.{QueueEntry, queueHistory, NoReset, handed, lossNow, lostOne, lossNext, storedAs, stored, lost}
 use Rattle.demands.specs.Demands.{FirstInFirstOut, LossCount, after}
 use Rattle.demands.proofs.Placing.{Fits, placed-fits, removed-fits}
-use Rattle.demands.proofs.QueueRuns.{emptyQueue, ReadRule, placed, taken, renewed, left, QueueRun, ended, met, since}
-use Rattle.demands.proofs.Port.{port-queue}
+use Rattle.demands.proofs.QueueRuns.{emptyQueue, ReadRule, placed, taken, renewed, left, QueueRun, ended, met}
+use Rattle.demands.proofs.Port.{channel-run, since-reset, queue-run}
 
 module _ {A : Type 0} where
   -- THE FLAG ON THE NEWEST
@@ -128,12 +128,12 @@ fits-empty d = record { waiting = omega arith; losses = omega arith }
 
 pub first-in-first-out : FirstInFirstOut
 first-in-first-out A z n small cs =
-    since (λ qs. handed qs ++ after z n cs .queue .slots ≡ stored qs)
-    (λ qs run steady. fifo run steady (fits-empty (z .depth)) ∙ rw flag-none)
-    (port-queue z n small cs)
+    since-reset (λ es. handed (queueHistory es) ++ after z n cs .queue .slots ≡ stored (queueHistory es))
+    (λ es run steady. fifo (queue-run run) steady (fits-empty (z .depth)) ∙ rw flag-none)
+    (channel-run z n small cs)
 
 pub loss-count : LossCount
 loss-count A z n small cs =
-    since (λ qs. after z n cs .queue .losses ≡ min (lost qs) 65535)
-    (λ qs run steady. count run steady (fits-empty (z .depth)) ∙ omega arith)
-    (port-queue z n small cs)
+    since-reset (λ es. after z n cs .queue .losses ≡ min (lost (queueHistory es)) 65535)
+    (λ es run steady. count (queue-run run) steady (fits-empty (z .depth)) ∙ omega arith)
+    (channel-run z n small cs)

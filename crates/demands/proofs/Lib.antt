@@ -1,9 +1,11 @@
 pub mod Choices
 pub mod Cases
 pub mod Placing
+pub mod Arrivals
 pub mod Examples
 pub mod Reader
 pub mod Lines
+pub mod TextLines
 pub mod Isolation
 pub mod Order
 pub mod ToldCounts
@@ -12,7 +14,9 @@ pub mod Refusals
 pub mod Bounds
 pub mod QueueRuns
 pub mod Port
+pub mod AnswersReadBack
 pub mod Fifo
+pub mod GoesOut
 pub mod ReadBack
 pub mod TwoQueues
 pub mod ReadingMore

@@ -16,7 +16,7 @@ use Rattle.paper.specs.Transmitter.{loaded}
 use Rattle.paper.specs.Channel.{Channel, fresh, ChannelCall, written, channelStep}
 use Rattle.paper.specs.Card.{Card, freshCard, Call, on, pick, at, with, step}
 use Rattle.paper.specs.Run.{Named, run, end}
-use Rattle.demands.specs.History.{Entry, entryOf, port, queueEntry, queueHistory}
+use Rattle.demands.specs.History.{Entry, entryOf, port, behindReset, sinceReset, queueEntry, queueHistory, NoReset}
 use Rattle.demands.specs.Demands.{history, after}
 use Rattle.demands.proofs.Cases.{declined, loading, other, Deed, refusal, arrival, reading, change, renewal, showing, sending, deed, by-number, by-pick}
 use Rattle.demands.proofs.Isolation.{step-length, isolation}
@@ -27,7 +27,7 @@ use Rattle.demands.proofs.QueueRuns.{emptyQueue, QueueStep, placed, tak
 pub data ChannelRun {A : Type 0} (z : Size) : Channel A → List (Entry A) → Channel A → Type 0 where
   finished : {h : Channel A} → ChannelRun z h [] h
   call : {h h′ : Channel A} {a : A} {c : ChannelCall} {g : Given (Channel A)} {es : List (Entry A)}
-      → Deed z a h c g → ChannelRun z (g .next) es h′ → ChannelRun z h (entryOf h g (record { name = a; call = c }) ∷ es) h′
+      → g ≡ channelStep z a h c → Deed z a h c g → ChannelRun z (g .next) es h′ → ChannelRun z h (entryOf h g (record { name = a; call = c }) ∷ es) h′
 
 module _ {A : Type 0} where
   module _ (z : Size) (a : A) (K : Card A) where
@@ -50,7 +50,7 @@ module _ {A : Type 0} where
           n c (λ above. absurd (omega arith))
           λ _.
           let h = channelStep z a (at K n) c .next in
-          call (deed z a (at K n) c)
+          call refl (deed z a (at K n) c)
           (rw (getD-set-same (K .channels) n h fresh (omega arith)) at (law (with K n h) (length-set (K .channels) n h ∙ four))))
 
       behind : (c : Call) → PortRun K (record { name = a; call = c } ∷ cs)
@@ -70,10 +70,27 @@ module _ {A : Type 0} where
     pub channel-run : (cs : List (Named A Call)) → ChannelRun z fresh (history z n cs) (after z n cs)
     channel-run cs = rw (getD-replicate 4 n (fresh {A = A}) fresh small) at (port-run cs freshCard refl)
 
+-- what holds of a history from a fresh channel on, without a reset, holds of any since the last reset
+module _ {A : Type 0} {z : Size} {h′ : Channel A} (P : List (Entry A) → Type 0)
+    (law : (es : List (Entry A)) → ChannelRun z fresh es h′ → NoReset (queueHistory es) → P es) where
+  behind-reset : {h : Channel A} {es : List (Entry A)} (kept : List (Entry A)) → ChannelRun z h es h′ → (NoReset (queueHistory es) → P kept)
+      → P (behindReset kept es)
+  behind-reset kept finished p = p tt
+  behind-reset kept (call _ (refusal _ _ e) run) p = rw e (behind-reset kept run (λ s. p (e, s)))
+  behind-reset kept (call _ (arrival _ _ _) run) p = behind-reset kept run (λ s. p (refl, s))
+  behind-reset kept (call _ (reading _ _ _ _) run) p = behind-reset kept run (λ s. p (refl, s))
+  behind-reset kept (call _ (change _ _) run) p = behind-reset kept run (λ s. p (refl, s))
+  behind-reset kept (call {es = es} _ renewal run) p = behind-reset es run (law es run)
+  behind-reset kept (call _ showing run) p = behind-reset kept run (λ s. p (refl, s))
+  behind-reset kept (call _ (sending _) run) p = behind-reset kept run (λ s. p (refl, s))
+
+  pub since-reset : {es : List (Entry A)} → ChannelRun z fresh es h′ → P (sinceReset es)
+  since-reset {es} run = behind-reset es run (law es run)
+
 -- WHAT A CALL IS TO THE QUEUE
 
 -- what a read writes is found again from its place on
-written-found : (buffer xs : List ℕ) (place : ℕ) → place ≤ length buffer → take (length xs) (drop place (written buffer place xs)) ≡ xs
+pub written-found : (buffer xs : List ℕ) (place : ℕ) → place ≤ length buffer → take (length xs) (drop place (written buffer place xs)) ≡ xs
 written-found buffer xs place l = rw (drop-at (take place buffer) _ place (length-take-le place buffer l)) (take-append-seam xs _)
 
 module _ {X : Type 0} where
@@ -107,9 +124,9 @@ module _ {A : Type 0} {z : Size} where
   meets {a} (sending (loading l)) = left a _
   meets {a} (sending (other o)) = rw (o .calm) (left a _)
 
-  queue-run : {h h′ : Channel A} {es : List (Entry A)} → ChannelRun z h es h′ → QueueRun (z .depth) Full (h .queue) (queueHistory es) (h′ .queue)
+  pub queue-run : {h h′ : Channel A} {es : List (Entry A)} → ChannelRun z h es h′ → QueueRun (z .depth) Full (h .queue) (queueHistory es) (h′ .queue)
   queue-run finished = ended
-  queue-run (call d r) = met (meets d) (queue-run r)
+  queue-run (call e d r) = met (meets d) (queue-run r)
 
 pub port-queue : {A : Type 0} (z : Size) (n : ℕ) → n < 4 → (cs : List (Named A Call))
     → QueueRun (z .depth) Full emptyQueue (queueHistory (history z n cs)) (after z n cs .queue)

@@ -1,5 +1,5 @@
 -- A RECEIVE QUEUE'S OWN HISTORY. What holds of every such history is proved over it once, and said of a port by `Port.port-queue`.
-use mathlib.Core.Path.{_≡_, refl}
+use mathlib.Core.Path.{_≡_}
 use mathlib.Core.Bool.{true, false}
 use mathlib.Core.List.{List, [], _∷_}
 use mathlib.Core.Option.{Option, none, some}
@@ -7,7 +7,7 @@ use Prim.Native.Nat.{ℕ}
 use Rattle.paper.specs.Queue.{Queue, place, oldest, removed, itemsOf}
 use Rattle.paper.specs.Stream.{images}
 use Rattle.paper.specs.declared.Ruling.{Ruling}
-use Rattle.demands.specs.History.{QueueEntry, behindReset, sinceReset, NoReset}
+use Rattle.demands.specs.History.{QueueEntry}
 
 abbrev pub emptyQueue : {A : Type 0} → Queue A
 emptyQueue = record { slots = []; losses = 0 }
@@ -42,17 +42,3 @@ pub record Full {A : Type 0} (q : Queue A) (asked told : ℕ) (bytes : List ℕ)
   pub out : oldest told q ≡ oldest asked q
   pub rest : removed told q ≡ removed asked q
   pub images : bytes ≡ images (itemsOf (oldest told q))
-
--- what holds of a history from an empty queue on, without a reset, holds of any since the last reset
-module _ {A : Type 0} {depth : ℕ} {Rule : ReadRule A} {q′ : Queue A} (P : List (QueueEntry A) → Type 0)
-    (law : (es : List (QueueEntry A)) → QueueRun depth Rule emptyQueue es q′ → NoReset es → P es) where
-  behind : {q : Queue A} {es : List (QueueEntry A)} (kept : List (QueueEntry A)) → QueueRun depth Rule q es q′ → (NoReset es → P kept)
-      → P (behindReset kept es)
-  behind kept ended p = p tt
-  behind kept (met (placed a r) run) p = behind kept run (λ s. p (refl, s))
-  behind kept (met (taken a n told bytes t) run) p = behind kept run (λ s. p (refl, s))
-  behind kept (met {es = es} (renewed a) run) p = behind es run (law es run)
-  behind kept (met (left a r) run) p = behind kept run (λ s. p (refl, s))
-
-  pub since : {es : List (QueueEntry A)} → QueueRun depth Rule emptyQueue es q′ → P (sinceReset es)
-  since {es} run = behind es run (law es run)

@@ -62,20 +62,20 @@ ruled-by : {z : Size} {h h′ : Channel ℕ} {es : List (Entry ℕ)} → Channel
     → (k j : ℕ) → j ≡ k → Numbered j es → ruled (queueHistory es) ≡ rulings k (h .settings) (h .flags) (events es)
 unfolding loaded
 ruled-by finished s k j p n = refl
-ruled-by (call (refusal r x y) run) s k j p n = ruled-by run (s .1) k _ (omega arith) (n .1)
-ruled-by {h = h} (call {es = es} (arrival kind b x) run) s k j p n =
+ruled-by (call _ (refusal r x y) run) s k j p n = ruled-by run (s .1) k _ (omega arith) (n .1)
+ruled-by {h = h} (call {es = es} _ (arrival kind b x) run) s k j p n =
     let o = Arrival.arrival (h .settings) (h .flags) kind b in
     ap₂ (λ (name : ℕ) (later : List (Ruled ℕ)). record { name = name; ruling = o .ruling } ∷ later) (n .0 ∙ p)
     (ruled-by run (s .1) (suc k) _ (rw x (omega arith)) (n .1))
     ∙ ap (λ (o : Outcome). record { name = k; ruling = o .ruling } ∷ rulings (suc k) (h .settings) (o .flags) (events es))
     (sym (break-byte (h .settings) (h .flags) kind b))
-ruled-by (call (reading count place buffer x) run) s k j p n = ruled-by run (s .1) k _ (omega arith) (n .1)
-ruled-by (call (change l x) run) s k j p n = ruled-by run (s .1) k _ (omega arith) (n .1)
-ruled-by (call renewal run) s k j p n = absurd (true≢false (s .0))
-ruled-by (call showing run) s k j p n = ruled-by run (s .1) k _ (omega arith) (n .1)
-ruled-by (call (sending (declined r)) run) s k j p n = ruled-by run (s .1) k _ (omega arith) (n .1)
-ruled-by (call (sending (loading l)) run) s k j p n = ruled-by run (s .1) k _ (omega arith) (n .1)
-ruled-by {h = h} (call {a = a} {es = es} (sending (other o)) run) s k j p n =
+ruled-by (call _ (reading count place buffer x) run) s k j p n = ruled-by run (s .1) k _ (omega arith) (n .1)
+ruled-by (call _ (change l x) run) s k j p n = ruled-by run (s .1) k _ (omega arith) (n .1)
+ruled-by (call _ renewal run) s k j p n = absurd (true≢false (s .0))
+ruled-by (call _ showing run) s k j p n = ruled-by run (s .1) k _ (omega arith) (n .1)
+ruled-by (call _ (sending (declined r)) run) s k j p n = ruled-by run (s .1) k _ (omega arith) (n .1)
+ruled-by (call _ (sending (loading l)) run) s k j p n = ruled-by run (s .1) k _ (omega arith) (n .1)
+ruled-by {h = h} (call {a = a} {es = es} _ (sending (other o)) run) s k j p n =
     subst⁻¹
     (λ (says : Report).
     ruledAt a (says .fate) none ++ ruled (queueHistory es)

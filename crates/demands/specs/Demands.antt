@@ -1,28 +1,39 @@
 -- THE DEMANDS, each as a type; proofs/ has a proof of each. To be read with 01 beside it.
 use mathlib.Core.Path.{_≡_}
-use mathlib.Core.Bool.{true, false, not}
+use mathlib.Core.Bool.{Bool, true, false, not}
 use mathlib.Core.Logic.{_⊎_, _≢_}
 use mathlib.Core.List.{List, [], _∷_, _++_, map}
-use Prim.Native.Nat.{ℕ, _≤_, _<_, min}
-use lib.ListN.{length, getD, take, replicate}
+use mathlib.Core.Option.{Option, none, some}
+use Prim.Native.Nat.{ℕ, _+_, _-_, _*_, _≤_, _<_, min}
+use lib.ListN.{length, getD, take, drop, replicate}
 use Rattle.paper.specs.Settings.{Size, cardSize}
+use Rattle.paper.specs.Arrival.{NL, marking, arrival}
 use Rattle.paper.specs.Queue.{oldest, itemsOf, overruns}
-use Rattle.paper.specs.Stream.{Character, images, sort, byte, front, Decoded, decode, cleanFront}
-use Rattle.paper.specs.Channel.{Channel, ChannelCall, arrive, read, reset, state, lent, written}
-use Rattle.paper.specs.Card.{Card, freshCard, Call, on, pick, step, at, ready}
+use Rattle.paper.specs.Stream.{Character, good, damaged, images, sort, byte, front, Decoded, decode, cleanFront}
+use Rattle.paper.specs.Transmitter.{Transmitter, transmitDepth, load, turn}
+use Rattle.paper.specs.Channel.{Channel, ChannelCall, arrive, read, reset, state, transmit, lent, written}
+use Rattle.paper.specs.Card.{Card, freshCard, Call, on, pick, placeOn, step, at, ready}
 use Rattle.paper.specs.Run.{Named, run, seen, end, nameless}
 use Rattle.paper.specs.Bounds.{Sound}
-use Rattle.paper.specs.Frames.{answered, reply}
+use Rattle.paper.specs.Numbers.{numbers}
+use Rattle.paper.specs.Frames.{newline, answered, reply, lines}
+use Rattle.paper.specs.declared.Settings.{Settings}
+use Rattle.paper.specs.declared.Flags.{Flags}
+use Rattle.paper.specs.declared.Item.{Item}
+use Rattle.paper.specs.declared.Why.{Why}
+use Rattle.paper.specs.declared.Ruling.{Ruling}
+use Rattle.paper.specs.declared.Ruling.the-variants.{Store, StoreNothing}
 use Rattle.paper.specs.declared.Refusal.the-variants.{BrokenStream, ShortOutput}
 use Rattle.paper.specs.declared.Reading.the-variants.{Items, Unread}
-use Rattle.paper.specs.declared.Fate.the-variants.{Stored, Lost}
-use Rattle.paper.specs.declared.Answer.the-variants.{Handed, Shown, Picked}
+use Rattle.paper.specs.declared.Fate.{Fate}
+use Rattle.paper.specs.declared.Fate.the-variants.{Stored, Nothing, Lost}
+use Rattle.paper.specs.declared.Answer.the-variants.{Fated, Handed, Took, Silent, Sent, Shown, Picked}
 use Rattle.demands.specs.Text.{text}
-use Rattle.demands.specs.Examples.{Ranges, Crossed, Table, Endings, LossStays, ReadCases, ReaderCases, WholeCase, TransmitCase, QueueCase, HeldCase, NothingStoredCase, OrderCases, MergeCase}
+use Rattle.demands.specs.Examples.{Ranges, Crossed, Table, DamagedTable, Endings, LossStays, ReadCases, ReaderCases, EndCases, NumberCases, WholeCase, TransmitCase, QueueCase, HeldCase, NothingStoredCase, ImpliedXonCase, LiteralMarkCase, RefusalCase, OrderCases, MergeCase}
 use Rattle.demands.specs.Marks.{characterOf, stream, Accepts}
-use Rattle.demands.specs.History.{isRefused, Entry, callsOn, port, events, Marking, queueHistory, sinceReset, NoReset, handed, bytesFound, stored, lost, between, Before, befores, numbered, Each, NoWorse, NoPick}
+use Rattle.demands.specs.History.{isRefused, Entry, callsOn, port, events, Marking, sinceReset, queueHistory, NoReset, handed, bytesFound, stored, lost, gathered, TransmitEntry, transmitHistory, between, Before, befores, numbered, Each, NoWorse, NoPick}
 use Rattle.demands.specs.Conditions.{conditions, FirstDue}
-use Rattle.demands.specs.Spelling.{Calls}
+use Rattle.demands.specs.Spelling.{Calls, frameOf}
 
 -- DEMAND 1: "Every call answers for every input."
 
@@ -41,6 +52,26 @@ pub record Refusals : Type 1 where
 pub record Lines : Type 0 where
   pub called : (z : Size) (K : Card Unit) (line : List ℕ) (c : Call) → Calls z line c → reply z K line ≡ answered (step z tt K c)
   pub refused : (z : Size) (K : Card Unit) (line : List ℕ) → ((c : Call) → ¬ Calls z line c) → reply z K line ≡ record { text = text "0B\n"; next = K }
+
+-- a byte that does not stand in a list
+abbrev pub Without : ℕ → List ℕ → Type 0
+Without b l = (i : ℕ) → i < length l → getD l i 0 ≢ b
+
+-- the lines of a text: "empty input prints nothing"; a line ends at its newline; "A last line without its newline counts"
+pub record TextLines : Type 0 where
+  pub empty : lines [] ≡ []
+  pub ended : (line rest : List ℕ) → Without newline line → lines (line ++ newline ∷ rest) ≡ line ∷ lines rest
+  pub unended : (line : List ℕ) → Without newline line → line ≢ [] → lines line ≡ line ∷ []
+
+-- an answer can be read back from its line: calls with the same first byte of their frames that are answered by the same bytes have the same answer,
+-- whatever else they bring, on whatever cards
+abbrev pub AnswersReadBack : Type 1
+AnswersReadBack =
+    (A : Type 0) (z : Size) (a b : A) (K L : Card A) (c d : Call)
+    → let g = step z a K c in
+    let h = step z b L d in
+    frameOf c ≡ frameOf d → numbers (g .answer) (drop (placeOn c) (g .lent)) ≡ numbers (h .answer) (drop (placeOn d) (h .lent))
+    → g .answer ≡ h .answer
 
 -- "shown of a fresh one and kept by every call"
 pub record Bounds : Type 1 where
@@ -82,8 +113,36 @@ ReaderCall = (s sorts bytes : List ℕ) → ReaderGives s sorts bytes (decode s 
 pub record CleanFront (s : List ℕ) : Type 0 where
   pub rest : List ℕ
   pub whole : s ≡ cleanFront s ++ rest
-  pub clean : (i : ℕ) → i < length (cleanFront s) → getD (cleanFront s) i 0 ≢ 0xFF
+  pub clean : Without 0xFF (cleanFront s)
   pub ends : (rest ≡ []) ⊎ (getD rest 0 0 ≡ 0xFF)
+
+-- DEMAND 2: ONE ARRIVAL
+
+-- an arrival's fate, by what the seven steps rule and how many wait: nothing to store, with its reason; "stored"; "lost". There is no other
+pub data FateOf (depth waiting : ℕ) : Ruling → Fate → Type 0 where
+  nothing : (why : Why) → FateOf depth waiting (StoreNothing why) (Nothing why)
+  room : (i : Item) → waiting < depth → FateOf depth waiting (Store i) Stored
+  full : (i : Item) → depth ≤ waiting → FateOf depth waiting (Store i) Lost
+
+abbrev pub Fates : Type 1
+Fates =
+    (A : Type 0) (z : Size) (a : A) (K : Card A) (n kind b : ℕ) → n < 4 → kind ≤ 3
+    → let h = at K n in
+    (f : Fate) × (step z a K (on n (arrive kind b)) .answer ≡ Fated f)
+    × FateOf (z .depth) (length (h .queue .slots)) (arrival (h .settings) (h .flags) kind b .ruling) f
+
+-- with marking on, what is stored stands for a damaged 0 where a break came ("A break counts as a damaged zero"), for the damaged byte as it came, for
+-- a good character where a good one came
+pub data StandsFor : (kind byte : ℕ) → Character → Type 0 where
+  good-one : (b c : ℕ) → StandsFor 0 b (good c)
+  parity : (b : ℕ) → StandsFor 1 b (damaged b)
+  framing : (b : ℕ) → StandsFor 2 b (damaged b)
+  break : (b : ℕ) → StandsFor 3 b (damaged 0x00)
+
+abbrev pub Marked : Type 0
+Marked =
+    (s : Settings) (f : Flags) (kind b : ℕ) (i : Item) → kind ≤ 3 → marking s ≡ true → arrival s f kind b .ruling ≡ Store i
+    → StandsFor kind b (characterOf i)
 
 -- DEMAND 2: WHOLE CALL SEQUENCES
 
@@ -107,14 +166,14 @@ ReadBack =
 abbrev pub FirstInFirstOut : Type 1
 FirstInFirstOut =
     (A : Type 0) (z : Size) (n : ℕ) → n < 4 → (cs : List (Named A Call))
-    → let qs = sinceReset (queueHistory (history z n cs)) in
+    → let qs = queueHistory (sinceReset (history z n cs)) in
     handed qs ++ after z n cs .queue .slots ≡ stored qs
 
 -- the loss count is the number of fates 2 since the last reset, "staying at 65,535"
 abbrev pub LossCount : Type 1
 LossCount =
     (A : Type 0) (z : Size) (n : ℕ) → n < 4 → (cs : List (Named A Call))
-    → after z n cs .queue .losses ≡ min (lost (sinceReset (queueHistory (history z n cs)))) 65535
+    → after z n cs .queue .losses ≡ min (lost (queueHistory (sinceReset (history z n cs)))) 65535
 
 -- a read tells of what it hands over and a state of what there is, "at most 12 waiting" (02 a): no count is made up
 pub record ToldCounts : Type 1 where
@@ -128,6 +187,53 @@ pub record ToldCounts : Type 1 where
       isRefused (step z a K (on n state) .answer) ≡ false
       → step z a K (on n state) .answer
       ≡ Shown (min (length (h .queue .slots)) (z .most)) (length (h .transmitter .bytes)) (not (h .flags .running)) (h .queue .losses)
+
+-- DEMAND 2: WHAT GOES OUT
+
+-- since the last reset: what went out, and then what is still held, is what came in, in order
+abbrev pub AllKept : (out : TransmitEntry → List ℕ) (held : Transmitter → List ℕ) (came : TransmitEntry → List ℕ) → Type 1
+AllKept out held came =
+    (A : Type 0) (z : Size) (n : ℕ) → n < 4 → (cs : List (Named A Call))
+    → let ts = transmitHistory (sinceReset (history z n cs)) in
+    gathered out ts ++ held (after z n cs .transmitter) ≡ gathered came ts
+
+abbrev pub owing : Bool → List ℕ
+owing true = NL ∷ []
+owing false = []
+
+abbrev pub waits : Option ℕ → List ℕ
+waits none = []
+waits (some b) = b ∷ []
+
+-- nothing is left to go out
+pub record Gone (t : Transmitter) : Type 0 where
+  pub bytes : t .bytes ≡ []
+  pub owed : t .owed ≡ false
+  pub special : t .special ≡ none
+
+pub record GoesOut : Type 1 where
+  -- "Load: takes the first min(length, room) bytes; answers that number."
+  pub loads : (A : Type 0) (z : Size) (a : A) (K : Card A) (n : ℕ) (l : List ℕ) → n < 4
+      → step z a K (on n (transmit (load l))) .answer ≡ Took (min (length l) (transmitDepth - length (at K n .transmitter .bytes)))
+  -- bytes that left the queue, and those still in it, are those that loads took
+  pub queued : AllKept (λ e. e .left) (λ t. t .bytes) (λ e. e .took)
+  -- each goes out at one turn, an NL under field 10 as CR and NL at two, with nothing but specials between; the last NL may be owed
+  pub sent : AllKept (λ e. e .sent) (λ t. owing (t .owed)) (λ e. e .due)
+  -- every special that was taken is sent once, unless it still waits
+  pub specials : AllKept (λ e. e .special) (λ t. waits (t .special)) (λ e. e .asked)
+  -- and at the next turn: "A waiting special goes first, even when stopped or CTS is 0, even between CR and its NL."
+  pub special-first : (A : Type 0) (z : Size) (a : A) (K : Card A) (n b : ℕ) → n < 4 → at K n .transmitter .special ≡ some b
+      → step z a K (on n (transmit turn)) .answer ≡ Sent b
+  -- "Else nothing goes if stopped, or if field 9 is 1 and CTS is 0."
+  pub held : (A : Type 0) (z : Size) (a : A) (K : Card A) (n : ℕ) → n < 4
+      → let h = at K n in
+      h .transmitter .special ≡ none → (h .flags .running ≡ false) ⊎ ((h .settings .hold ≡ 1) × (h .transmitter .cts ≡ false))
+      → step z a K (on n (transmit turn)) .answer ≡ Silent
+  -- and with nothing that holds, two turns for each byte and one each for an owed NL and a special let everything go
+  pub all-goes : (A : Type 0) (z : Size) (a : A) (K : Card A) (n turns : ℕ) → n < 4 → Sound z K
+      → let h = at K n in
+      h .flags .running ≡ true → (h .settings .hold ≡ 1 → h .transmitter .cts ≡ true) → 2 + 2 * length (h .transmitter .bytes) ≤ turns
+      → Gone (at (end z K (replicate turns (record { name = a; call = on n (transmit turn) }))) n .transmitter)
 
 -- DEMAND 3
 
@@ -229,27 +335,38 @@ pub record Demands : Type 1 where
   pub ranges : Ranges
   pub crossed : Crossed
   pub table : Table
+  pub damaged-table : DamagedTable
   pub endings : Endings
   pub loss-stays : LossStays
   pub read-cases : ReadCases
   pub reader-cases : ReaderCases
+  pub end-cases : EndCases
+  pub number-cases : NumberCases
   pub whole-case : WholeCase
   pub transmit-case : TransmitCase
   pub queue-case : QueueCase
   pub held-case : HeldCase
   pub nothing-stored-case : NothingStoredCase
+  pub implied-xon-case : ImpliedXonCase
+  pub literal-mark-case : LiteralMarkCase
+  pub refusal-case : RefusalCase
   pub order-cases : OrderCases
   pub merge-case : MergeCase
   pub refusals : Refusals
   pub lines : Lines
+  pub text-lines : TextLines
+  pub answers-read-back : AnswersReadBack
   pub bounds : Bounds
   pub reader : Reader
   pub reader-call : ReaderCall
   pub clean-front : (s : List ℕ) → CleanFront s
+  pub fates : Fates
+  pub marked : Marked
   pub read-back : ReadBack
   pub first-in-first-out : FirstInFirstOut
   pub loss-count : LossCount
   pub told-counts : ToldCounts
+  pub goes-out : GoesOut
   pub reading-more : ReadingMore
   pub two-hosts : TwoHosts
   pub names-unseen : NamesUnseen

@@ -1,5 +1,6 @@
 -- 01's examples, and others worked out by hand from its sentences. To be read with 01 beside it.
 use mathlib.Core.Path.{_≡_}
+use mathlib.Core.Bool.{true, false}
 use mathlib.Core.List.{List, [], _∷_, _++_, map}
 use mathlib.Core.Option.{Option, none, some}
 use Prim.Native.Nat.{ℕ, _+_, _-_}
@@ -11,11 +12,12 @@ use Rattle.paper.specs.Stream.{images, decode, cleanFront}
 use Rattle.paper.specs.Channel.{Channel, fresh, ChannelCall, arrive, read, takeSettings, reset, state, channelStep}
 use Rattle.paper.specs.Card.{freshCard, Call, on, pick, step}
 use Rattle.paper.specs.Run.{Named, end, nameless}
+use Rattle.paper.specs.Numbers.{refusalNumbers, numbers}
 use Rattle.paper.specs.Frames.{newline, program}
-use Rattle.paper.specs.declared.Refusal.the-variants.{TooMany, NoRoom, BrokenStream, ShortOutput}
+use Rattle.paper.specs.declared.Refusal.the-variants.{BadChannel, BadKind, TooMany, NoRoom, BadField, BadSpecial, SpecialWaits, BrokenStream, ShortOutput, BadCts, BadLine}
 use Rattle.paper.specs.declared.Reading.the-variants.{Items, Unread}
 use Rattle.paper.specs.declared.Answer.{Answer}
-use Rattle.paper.specs.declared.Answer.the-variants.{Refused, Handed}
+use Rattle.paper.specs.declared.Answer.the-variants.{Refused, Handed, Shown}
 use Rattle.demands.specs.Text.{text}
 use Rattle.demands.specs.History.{callsOn}
 
@@ -155,6 +157,38 @@ givenImages (r ∷ rs) = r .image ∷ givenImages rs
 abbrev pub Table : Type 0
 Table = storedImages tableRows ≡ givenImages tableRows
 
+-- worked out by hand from steps 1 to 3: what else a break and a damaged character may meet
+abbrev pub damagedRows : List TableRow
+damagedRows =
+    let mark = but 1 4 freshBytes in
+    let markAndStrip = but 3 1 mark in
+    -- mark: a framing error is marked as a parity error is; a damaged 00 is no good 00; a break's byte "is disregarded"
+    tableRow mark 2 0x41 (0xFF ∷ 0x00 ∷ 0x41 ∷ [])
+    ∷ tableRow mark 1 0x00 (0xFF ∷ 0x00 ∷ 0x00 ∷ [])
+    ∷ tableRow mark 0 0x00 (0x00 ∷ [])
+    ∷ tableRow mark 3 0x41 (0xFF ∷ 0x00 ∷ 0x00 ∷ [])
+    -- mark and strip: a break is marked too, and a damaged FF is "unstripped"
+    ∷ tableRow markAndStrip 3 0x00 (0xFF ∷ 0x00 ∷ 0x00 ∷ [])
+    ∷ tableRow markAndStrip 2 0xFF (0xFF ∷ 0x00 ∷ 0xFF ∷ [])
+    -- a marked XOFF and a marked CR "match no special character", and no line ending
+    ∷ tableRow (but 5 2 mark) 1 0x13 (0xFF ∷ 0x00 ∷ 0x13 ∷ [])
+    ∷ tableRow (but 4 6 mark) 2 0x0D (0xFF ∷ 0x00 ∷ 0x0D ∷ [])
+    -- "Pass: go on as good": stripped, and FF is bare where nothing is marked
+    ∷ tableRow (but 3 1 freshBytes) 2 0xC1 (0x41 ∷ [])
+    ∷ tableRow freshBytes 1 0xFF (0xFF ∷ [])
+    -- a break is one by its kind alone: where breaks are ignored, a framing error with the byte 00 is stored, and a break with another byte is not
+    ∷ tableRow (but 2 0 mark) 2 0x00 (0xFF ∷ 0x00 ∷ 0x00 ∷ [])
+    ∷ tableRow (but 2 0 mark) 3 0x41 []
+    -- null and discard: what is "kept" of a break is a plain 00
+    ∷ tableRow (but 1 3 freshBytes) 2 0xFF (0x00 ∷ [])
+    ∷ tableRow (but 1 3 freshBytes) 3 0x41 (0x00 ∷ [])
+    ∷ tableRow (but 1 2 freshBytes) 3 0x41 (0x00 ∷ [])
+    ∷ tableRow (but 1 2 freshBytes) 1 0x00 []
+    ∷ []
+
+abbrev pub DamagedTable : Type 0
+DamagedTable = storedImages damagedRows ≡ givenImages damagedRows
+
 -- 01's table of line endings, for the values 0 to 7: what CR gives, and what NL gives
 abbrev pub Endings : Type 0
 Endings =
@@ -235,6 +269,34 @@ outputOf (x ∷ xs) = text (x .answer) ++ newline ∷ outputOf xs
 -- the program turns the input text into the output text
 abbrev pub Answered : List Exchange → Type 0
 Answered xs = program cardSize (inputOf xs) ≡ outputOf xs
+
+-- "empty input prints nothing"; "an empty line is refusal 11"; "A last line without its newline counts", also one that is no frame
+pub record EndCases : Type 0 where
+  pub nothing : program cardSize [] ≡ []
+  pub newline-alone : program cardSize (text "\n") ≡ text "0B\n"
+  pub unended : program cardSize (text "0A00\n08") ≡ text "000000000000\n00FF\n"
+  pub half-a-byte : program cardSize (text "08\n0") ≡ text "00FF\n0B\n"
+
+-- the numbers of each refusal, "5 is followed by its field" and 8 by "the place of the offending FF"; of a read "characters, flagged, bytes"; of a state
+-- "waiting, transmit waiting, stopped, loss high, loss low"
+pub record NumberCases : Type 0 where
+  pub refusals : map refusalNumbers
+      (BadChannel ∷ BadKind ∷ TooMany ∷ NoRoom ∷ BadField 12 ∷ BadSpecial ∷ SpecialWaits ∷ BrokenStream 7 ∷ ShortOutput ∷ BadCts ∷ BadLine ∷ [])
+      ≡ (1 ∷ [])
+      ∷ (2 ∷ [])
+      ∷ (3 ∷ [])
+      ∷ (4 ∷ [])
+      ∷ (5 ∷ 12 ∷ [])
+      ∷ (6 ∷ [])
+      ∷ (7 ∷ [])
+      ∷ (8 ∷ 7 ∷ [])
+      ∷ (9 ∷ [])
+      ∷ (10 ∷ [])
+      ∷ (11 ∷ [])
+      ∷ []
+  pub handed : numbers (Handed 2 1 4) (0xFF ∷ 0x00 ∷ 0x41 ∷ 0x42 ∷ 9 ∷ []) ≡ 0 ∷ 2 ∷ 1 ∷ 0xFF ∷ 0x00 ∷ 0x41 ∷ 0x42 ∷ []
+  pub shown : numbers (Shown 12 3 true 0xABCD) [] ≡ 0 ∷ 12 ∷ 3 ∷ 1 ∷ 0xAB ∷ 0xCD ∷ []
+  pub all-lost : numbers (Shown 0 0 false 65535) [] ≡ 0 ∷ 0 ∷ 0 ∷ 0 ∷ 0xFF ∷ 0xFF ∷ []
 
 -- "Whole case, input then output"
 abbrev pub WholeCase : Type 0
@@ -424,6 +486,119 @@ NothingStoredCase =
     ∷ "0700020000070100000100000A0D000016" ⇒ "00"
     ∷ "0100000D" ⇒ "0002"
     ∷ "0A00" ⇒ "000C00010002"
+    ∷ [])
+
+-- Implied XON, worked out by hand from step 3. Mark, flow characters swallowed, implied XON and literal-next on: XOFF stops the transmitter; a kept break
+-- and a marked character leave it so, a good one sets it running; XOFF stops it again, for step 6 recognises it; the literal-next character sets it
+-- running, and the XOFF behind it is stored and stops nothing. Discard, row 4 of the line endings: a discarded character leaves it stopped, and a CR of
+-- which nothing is stored sets it running. Pass: a damaged character sets it running, for it goes on as good. Implied XON off: a good character leaves it
+-- stopped. On again, with thirteen waiting: a good character that is lost sets it running
+abbrev pub ImpliedXonCase : Type 0
+ImpliedXonCase =
+    Answered
+    ("0700040100000201010100001113000016" ⇒ "00"
+    ∷ "01000013" ⇒ "0001"
+    ∷ "01000300" ⇒ "0000"
+    ∷ "01000141" ⇒ "0000"
+    ∷ "0A00" ⇒ "000200010000"
+    ∷ "01000041" ⇒ "0000"
+    ∷ "0A00" ⇒ "000300000000"
+    ∷ "01000013" ⇒ "0001"
+    ∷ "0A00" ⇒ "000300010000"
+    ∷ "01000016" ⇒ "0000"
+    ∷ "0A00" ⇒ "000400000000"
+    ∷ "01000013" ⇒ "0000"
+    ∷ "0A00" ⇒ "000500000000"
+    ∷ "0700020100040201000100001113000016" ⇒ "00"
+    ∷ "01000013" ⇒ "0001"
+    ∷ "01000141" ⇒ "0003"
+    ∷ "0A00" ⇒ "000500010000"
+    ∷ "0100000D" ⇒ "0005"
+    ∷ "0A00" ⇒ "000500000000"
+    ∷ "0700010100000201000100001113000016" ⇒ "00"
+    ∷ "01000013" ⇒ "0001"
+    ∷ "01000241" ⇒ "0000"
+    ∷ "0A00" ⇒ "000600000000"
+    ∷ "0700010100000200000100001113000016" ⇒ "00"
+    ∷ "01000013" ⇒ "0001"
+    ∷ "01000041" ⇒ "0000"
+    ∷ "0A00" ⇒ "000700010000"
+    ∷ "02000C" ⇒ "000700FF0000FF00414116134141"
+    ∷ "0700010100000201000100001113000016" ⇒ "00"
+    ∷ elevenStored
+    ++ "0100004D" ⇒ "0000"
+    ∷ "0100004E" ⇒ "0000"
+    ∷ "01000013" ⇒ "0001"
+    ∷ "0A00" ⇒ "000C00010000"
+    ∷ "0100004F" ⇒ "0002"
+    ∷ "0A00" ⇒ "000C00000001"
+    ∷ [])
+
+-- The literal mark, worked out by hand: an XOFF behind it is stored (0), and without it swallowed (1). Mark: a kept break and a damaged character clear it.
+-- Null: a damaged character and a kept break clear it. Discard, breaks ignored: neither clears it, and the XOFF that it lets pass does. Pass: a damaged
+-- XOFF behind it is stored. Settings clear it; and a literal-next character behind it is stored and does not set it again
+abbrev pub LiteralMarkCase : Type 0
+LiteralMarkCase =
+    Answered
+    ("0700040100000200010100001113000016" ⇒ "00"
+    ∷ "01000016" ⇒ "0000"
+    ∷ "01000300" ⇒ "0000"
+    ∷ "01000013" ⇒ "0001"
+    ∷ "01000016" ⇒ "0000"
+    ∷ "01000141" ⇒ "0000"
+    ∷ "01000013" ⇒ "0001"
+    ∷ "0700030100000200010100001113000016" ⇒ "00"
+    ∷ "01000016" ⇒ "0000"
+    ∷ "01000241" ⇒ "0000"
+    ∷ "01000013" ⇒ "0001"
+    ∷ "01000016" ⇒ "0000"
+    ∷ "01000300" ⇒ "0000"
+    ∷ "01000013" ⇒ "0001"
+    ∷ "02000C" ⇒ "00080016FF000016FF004116001600"
+    ∷ "0700020000000200010100001113000016" ⇒ "00"
+    ∷ "01000016" ⇒ "0000"
+    ∷ "01000141" ⇒ "0003"
+    ∷ "01000341" ⇒ "0004"
+    ∷ "01000013" ⇒ "0000"
+    ∷ "01000013" ⇒ "0001"
+    ∷ "0700010100000200010100001113000016" ⇒ "00"
+    ∷ "01000016" ⇒ "0000"
+    ∷ "01000113" ⇒ "0000"
+    ∷ "01000013" ⇒ "0001"
+    ∷ "01000016" ⇒ "0000"
+    ∷ "0700010100000200010100001113000016" ⇒ "00"
+    ∷ "01000013" ⇒ "0001"
+    ∷ "01000016" ⇒ "0000"
+    ∷ "01000016" ⇒ "0000"
+    ∷ "01000013" ⇒ "0001"
+    ∷ "02000C" ⇒ "00070016131613161616"
+    ∷ [])
+
+-- A line for each refusal that a frame can meet, worked out by hand: channel 4, kind 4, thirteen asked, settings of no, of fourteen and of sixteen bytes,
+-- field 1 of 5, XON that is XOFF, special 0, a second special, CTS 2; and lines that make no call: a frame that is cut off, one that is too long, an odd
+-- digit, no digit, a first byte that is not listed. A line of 34 bytes is a frame
+abbrev pub RefusalCase : Type 0
+RefusalCase =
+    Answered
+    ("01040041" ⇒ "01"
+    ∷ "01000441" ⇒ "02"
+    ∷ "02000D" ⇒ "03"
+    ∷ "0700" ⇒ "0500"
+    ∷ "07000101000000000001000011130000" ⇒ "0500"
+    ∷ "070001010000000000010000111300001600" ⇒ "0500"
+    ∷ "0700050100000000000100001113000016" ⇒ "0501"
+    ∷ "0700010100000100000100001111000016" ⇒ "050C"
+    ∷ "060000" ⇒ "06"
+    ∷ "060001" ⇒ "00"
+    ∷ "060002" ⇒ "07"
+    ∷ "050002" ⇒ "0A"
+    ∷ "0A" ⇒ "0B"
+    ∷ "0A0000" ⇒ "0B"
+    ∷ "0A000" ⇒ "0B"
+    ∷ "0A0G" ⇒ "0B"
+    ∷ "0B00" ⇒ "0B"
+    ∷ "03004142434445464748494A4B4C4D4E4F505152535455565758595A5B5C5D5E5F60" ⇒ "000C"
+    ∷ "03004142434445464748494A4B4C4D4E4F505152535455565758595A5B5C5D5E5F6061" ⇒ "0B"
     ∷ [])
 
 -- ORDER BETWEEN PORTS

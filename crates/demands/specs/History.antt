@@ -1,19 +1,22 @@
 -- The words of the demands, read off a run: what one port was asked and answered, and what that was to its receive queue.
 use mathlib.Core.Path.{_≡_}
-use mathlib.Core.Bool.{Bool, true, false}
+use mathlib.Core.Bool.{Bool, true, false, _&&_}
 use mathlib.Core.Logic.{_≢_}
 use mathlib.Core.List.{List, [], _∷_, _++_, map}
 use mathlib.Core.Option.{Option, none, some}
 use Prim.Native.Nat.{ℕ, _+_}
 use lib.Dec.{eqb, ltb}
-use lib.ListN.{take, drop}
+use lib.ListN.{length, getD, take, drop}
 use Rattle.paper.specs.Choice.{if_then_else_}
 use Rattle.paper.specs.Given.{Given}
-use Rattle.paper.specs.Arrival.{arrival, marking}
+use Rattle.paper.specs.Arrival.{arrival, marking, CR, NL}
 use Rattle.paper.specs.Queue.{Slot, oldest, namesOf}
-use Rattle.paper.specs.Channel.{Channel, ChannelCall, arrive, read, takeSettings, reset, state, transmit}
+use Rattle.paper.specs.Numbers.{numbers}
+use Rattle.paper.specs.Transmitter.{Transmitter, TransmitCall, load, turn, setCts, askSpecial, specialCharacter}
+use Rattle.paper.specs.Channel.{Channel, ChannelCall, arrive, read, takeSettings, reset, state, transmit, placeOf}
 use Rattle.paper.specs.Card.{Call, on, pick, at}
 use Rattle.paper.specs.Run.{Named, Moment}
+use Rattle.paper.specs.declared.Settings.{Settings}
 use Rattle.paper.specs.declared.Ruling.{Ruling}
 use Rattle.paper.specs.declared.Ruling.the-variants.{Store, StoreNothing}
 use Rattle.paper.specs.declared.Fate.{Fate}
@@ -47,23 +50,21 @@ report answers.NoneReady = nothingSaid
 abbrev pub isRefused : Answer → Bool
 isRefused a = report a .refused
 
--- WHAT A CALL ASKS of a receive queue: to place what the seven steps rule; to hand over so many characters, from a place of the lent buffer on; to be
--- fresh again
+-- WHAT A CALL ASKS of a receive queue: to place what the seven steps rule; to hand over so many characters; to be fresh again
 pub record Request : Type 0 where
   pub ruling : Option Ruling
   pub characters : ℕ
-  pub place : ℕ
   pub reset : Bool
 
 -- none of these
 abbrev pub nothingAsked : Request
-nothingAsked = record { ruling = none; characters = 0; place = 0; reset = false }
+nothingAsked = record { ruling = none; characters = 0; reset = false }
 
 abbrev pub request : {A : Type 0} → Channel A → ChannelCall → Request
-request h (arrive kind b) = record { ruling = some (arrival (h .settings) (h .flags) kind b .ruling); characters = 0; place = 0; reset = false }
-request h (read n place buffer) = record { ruling = none; characters = n; place = place; reset = false }
+request h (arrive kind b) = record { ruling = some (arrival (h .settings) (h .flags) kind b .ruling); characters = 0; reset = false }
+request h (read n place buffer) = record { ruling = none; characters = n; reset = false }
 request h (takeSettings l) = nothingAsked
-request h reset = record { ruling = none; characters = 0; place = 0; reset = true }
+request h reset = record { ruling = none; characters = 0; reset = true }
 request h state = nothingAsked
 request h (transmit c) = nothingAsked
 
@@ -94,6 +95,14 @@ module _ {A : Type 0} where
   abbrev pub port : ℕ → List (Moment A) → List (Entry A)
   port n [] = []
   port n (m ∷ ms) = map (entryOf (at (m .before) n) (m .gave)) (callOn n (m .by .name) (m .by .call)) ++ port n ms
+
+  -- from the last reset on, if there was one: kept are the entries behind the last one that was found
+  abbrev pub behindReset : (kept : List (Entry A)) → List (Entry A) → List (Entry A)
+  behindReset kept [] = kept
+  behindReset kept (e ∷ es) = if request (e .before) (e .by .call) .reset then behindReset es es else behindReset kept es
+
+  abbrev pub sinceReset : List (Entry A) → List (Entry A)
+  sinceReset es = behindReset es es
 
   -- marking was on at every arrival
   abbrev pub Marking : List (Entry A) → Type 0
@@ -129,21 +138,13 @@ module _ {A : Type 0} where
         -- the oldest that waited, as many as the answer says
         handed = oldest (says .characters) (e .before .queue);
         -- from the place on, as many as the answer says
-        bytes = take (says .bytes) (drop (asks .place) (e .lent));
+        bytes = take (says .bytes) (drop (placeOf (e .by .call)) (e .lent));
         reset = asks .reset;
       }
 
   -- the queue's own history
   abbrev pub queueHistory : List (Entry A) → List (QueueEntry A)
   queueHistory es = map queueEntry es
-
-  -- from the last reset on, if there was one: kept are the entries behind the last one that was found
-  abbrev pub behindReset : (kept : List (QueueEntry A)) → List (QueueEntry A) → List (QueueEntry A)
-  behindReset kept [] = kept
-  behindReset kept (e ∷ es) = if e .reset then behindReset es es else behindReset kept es
-
-  abbrev pub sinceReset : List (QueueEntry A) → List (QueueEntry A)
-  sinceReset es = behindReset es es
 
   -- no resets
   abbrev pub NoReset : List (QueueEntry A) → Type 0
@@ -195,6 +196,61 @@ module _ {A : Type 0} where
   abbrev pub lost : List (QueueEntry A) → ℕ
   lost [] = 0
   lost (e ∷ es) = lostOne (e .fate) + lost es
+
+-- ITS TRANSMITTER
+
+-- all that the parts of a list come to, in order
+abbrev pub gathered : {E X : Type 0} → (E → List X) → List E → List X
+gathered part [] = []
+gathered part (e ∷ es) = part e ++ gathered part es
+
+-- What one call on the port was to the transmitter
+pub record TransmitEntry : Type 0 where
+  -- of a load: the bytes that it took
+  pub took : List ℕ
+  -- of a special that was asked for: the special character, if it was taken
+  pub asked : List ℕ
+  -- of a turn: what it sent while a special waited; and else what it sent, the byte that left the queue, and as what that byte is to go out
+  pub special : List ℕ
+  pub sent : List ℕ
+  pub left : List ℕ
+  pub due : List ℕ
+
+-- none of these
+abbrev pub nothingMoved : TransmitEntry
+nothingMoved = record { took = []; asked = []; special = []; sent = []; left = []; due = [] }
+
+-- "With field 10, a queued NL goes out as CR, leaves the queue and owes an NL."
+abbrev pub goesAs : Settings → ℕ → List ℕ
+goesAs s b = if eqb (s .expand) 1 && eqb b NL then CR ∷ NL ∷ [] else b ∷ []
+
+-- a turn that sent something without a special and without an owed NL has taken it off the queue
+abbrev pub turnEntry : Settings → Transmitter → (sent : List ℕ) → (waiting : Option ℕ) → TransmitEntry
+turnEntry s t sent (some b) = record { took = []; asked = []; special = sent; sent = []; left = []; due = [] }
+turnEntry s t sent none =
+    let left = if t .owed then [] else take (length sent) (t .bytes) in
+    record { took = []; asked = []; special = []; sent = sent; left = left; due = gathered (goesAs s) left }
+
+-- line: the answer's numbers. "taken": a load took so many of the bytes it was lent; "00, or 01 and the byte sent"; a special that was taken has 00
+abbrev pub transmitted : Settings → Transmitter → (line : List ℕ) → TransmitCall → TransmitEntry
+transmitted s t line (load l) = record { took = take (getD line 1 0) l; asked = []; special = []; sent = []; left = []; due = [] }
+transmitted s t line turn = turnEntry s t (drop 2 line) (t .special)
+transmitted s t line (setCts v) = nothingMoved
+transmitted s t line (askSpecial n) =
+    let asked = if eqb (getD line 0 0) 0 then specialCharacter s n ∷ [] else [] in
+    record { took = []; asked = asked; special = []; sent = []; left = []; due = [] }
+
+abbrev pub calledEntry : {A : Type 0} → Channel A → (line : List ℕ) → ChannelCall → TransmitEntry
+calledEntry h line (arrive kind b) = nothingMoved
+calledEntry h line (read n place buffer) = nothingMoved
+calledEntry h line (takeSettings l) = nothingMoved
+calledEntry h line reset = nothingMoved
+calledEntry h line state = nothingMoved
+calledEntry h line (transmit c) = transmitted (h .settings) (h .transmitter) line c
+
+-- the transmitter's own history
+abbrev pub transmitHistory : {A : Type 0} → List (Entry A) → List TransmitEntry
+transmitHistory {A} es = map (λ (e : Entry A). calledEntry (e .before) (numbers (e .answer) []) (e .by .call)) es
 
 -- TWO HOSTS
 
