@@ -10,7 +10,6 @@ use lib.ListN.{length, getD, set, length-map, List·getD-map}
 use borrow.Author.Tests.{lt-ltb, le-ltb}
 use Rattle.paper.specs.Choice.{if_then_else_}
 use Rattle.paper.specs.Settings.{Size}
-use Rattle.paper.specs.Given as paper
 use Rattle.paper.specs.Given.{Given, refused}
 use Rattle.paper.specs.Channel.{ChannelCall, lent, fresh}
 use Rattle.paper.specs.Asked.{callWith}
@@ -19,7 +18,6 @@ use Rattle.paper.specs.Card as model
 use Rattle.paper.specs.Card.{Call, on, pick, at, put, round, ready, firstReady, pickedAs, picked, step, freshCard}
 use Rattle.paper.specs.Bounds as bounds
 use Rattle.paper.specs.declared.Refusal.the-variants.{BadChannel}
-use Rattle.paper.specs.declared.Answer.{Answer}
 use Rattle.paper.specs.declared.Answer.the-variants.{Refused, Picked, NoneReady}
 use Rattle.demands.proofs.Cases.{ahead}
 use Rattle.demands.proofs.Bounds.{kept, fresh-card}
@@ -43,12 +41,9 @@ pub card-in : (z : Size) (K : model.Card Unit) → cardIn (cardOf z K) ≡ K
 unfolding cardIn cardOf
 card-in z K = rw channels-in
 
--- the record of what a call leaves has the size of the record that it was called on, and so has each of its channels
-pub size-kept : (C : Card) (K : model.Card Unit) → sizeOf (cardOf (sizeOf C) K) ≡ sizeOf C
+-- the record of what a call leaves has the size of the record that it was called on
+size-kept : (C : Card) (K : model.Card Unit) → sizeOf (cardOf (sizeOf C) K) ≡ sizeOf C
 size-kept C K = refl
-
-pub channel-size : (C : Card) (c : Channel) → channel.sizeOf c ≡ sizeOf C
-channel-size C c = refl
 
 pub sound-of : (z : Size) (K : model.Card Unit) → sizeOf (cardOf z K) ≡ z → bounds.Sound z K → Sound (cardOf z K)
 sound-of z K e s = record { is = rw (e, card-in); bounds = rw (e, card-in) s }

@@ -3,11 +3,12 @@ use mathlib.Core.List.{List, _++_}
 use mathlib.Core.Option.{Option, none, some}
 use mathlib.Core.Path.{_≡_}
 use Prim.Native.Nat.{ℕ}
+use lib.ListN.{drop}
 use Rattle.paper.specs.Given.{Given}
 use Rattle.paper.specs.Numbers.{numbers}
 use Rattle.paper.specs.Asked.{callWith, unlent}
 use Rattle.paper.specs.Card as model
-use Rattle.paper.specs.Card.{Call, on, round, firstReady, step}
+use Rattle.paper.specs.Card.{Call, on, placeOn, round, firstReady, step}
 use Rattle.paper.specs.declared.Asked.{Asked}
 use Rattle.card.specs.declared.Card.{Card}
 use Rattle.card.specs.declared.Answered.{Answered}
@@ -21,12 +22,12 @@ given C call = step (sizeOf C) tt (cardIn C) call
 unfoldable pub answered : Card → Given (model.Card Unit) → Answered
 answered C g = record { answer = g .answer; card = cardOf (sizeOf C) (g .next) }
 
--- The answer and the record that come back are those of the paper's step, and so is what the lent bytes then are. So the answer's numbers are the
--- paper's; and the record is sound.
+-- The answer and the record that come back are those of the paper's step, and so is what the lent bytes then are. So the answer's numbers, a read's
+-- bytes from the place on among them, are the paper's; and the record is sound.
 pub record Promise (C : Card) (call : Call) (r : Answered) (lent : List ℕ) : Type 0 where
   pub gives : r ≡ answered C (given C call)
   pub leaves : lent ≡ given C call .lent
-  pub says : numbers (r .answer) lent ≡ numbers (given C call .answer) (given C call .lent)
+  pub says : numbers (r .answer) (drop (placeOn call) lent) ≡ numbers (given C call .answer) (drop (placeOn call) (given C call .lent))
   pub sound : Sound (r .card)
 
 -- A call by what is asked of a channel, with bytes at hand: the promise is kept with those that the call is lent, and the others stay.
