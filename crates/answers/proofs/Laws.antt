@@ -93,7 +93,7 @@ unlent-small (Shown waiting sending stopped losses) lent h s = s
 unlent-small (Picked n) lent h s = s
 unlent-small NoneReady lent h s = s
 
--- EVERY ANSWER OF THE PAPER'S STEP ON A SOUND CHANNEL OR CARD FITS A LINE
+-- EVERY ANSWER OF THE PAPER'S STEP ON A SOUND CHANNEL FITS A LINE
 
 abbrev Fits : {S : Type 0} → Given S → Type 0
 Fits g = Small (g .answer) (g .lent)
@@ -148,7 +148,7 @@ handed-fits h n place buffer few =
       inside = simp length-append (omega arith);
     }
 
--- the answers of a card of any size that the longest line is long enough for
+-- the answers of a channel of any size that the longest line is long enough for
 module _ (z : Size) (short : z .most ≤ cardSize .most) where
   pub small : (h : Channel Unit) → SoundChannel z h → (call : ChannelCall) → Small (channelStep z tt h call .answer) (channelStep z tt h call .lent)
   unfolding channelStep transmitDepth

@@ -2,14 +2,14 @@
 use mathlib.Core.Bool.{Bool, true, false}
 use mathlib.Core.List.{List, _∷_, _++_}
 use mathlib.Core.Option.{none}
-use mathlib.Core.Path.{_≡_, refl, ap, _∙_}
+use mathlib.Core.Path.{_≡_, refl, _∙_}
 use Prim.Native.Nat.{ℕ, _/_, _%_, _≤_}
 use native.Mathlib.Omega.{arith}
 use lib.Dec.{eqb}
 use lib.ListN.{take, drop}
 use Rattle.paper.specs.Choice.{if_then_else_}
 use Rattle.paper.specs.Settings.{Size}
-use Rattle.paper.specs.Card.{Card, Call}
+use Rattle.paper.specs.Card.{Card}
 use Rattle.paper.specs.Frames.{callOf, lineCall, lines, replied}
 use Rattle.paper.specs.Frames as paper
 use Rattle.hexadecimal.specs.declared.LineSoFar.{LineSoFar}

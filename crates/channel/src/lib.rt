@@ -32,7 +32,8 @@ pub struct Answered {
 }
 
 impl Channel {
-    pub const DEPTH: usize = Queue::DEPTH;
+    // How many items the receive queue holds.
+    pub const DEPTH: usize = paper::DEPTH;
 
     // The most that a read asks for, a threshold names and a state shows.
     pub const MOST: u8 = paper::MOST;
@@ -98,7 +99,7 @@ impl Channel {
         let outcome = rules::arrival(settings, flags, kind, byte);
         let ruling = outcome.ruling;
         let queue = self.queue;
-        let placed = queue.place(ruling);
+        let placed = queue.place(ruling, Channel::DEPTH);
         let fate = placed.fate;
         let flags = outcome.flags;
         let queue = placed.queue;

@@ -46,6 +46,10 @@ pub count-is : (places d : ℕ) (q : Queue) → SoundIn places d q → q .count 
 unfolding queueOf
 count-is places d q s = ap (λ (x : Queue). x .count) (s .is)
 
+-- a record that is sound at a depth within its places is sound at all of them
+pub deeper : (places d : ℕ) (q : Queue) → SoundIn places d q → d ≤ places → SoundIn places places q
+deeper places d q s fits = record { is = s .is; waiting = omega (arith, s .waiting); losses = s .losses }
+
 -- each array has all its places
 module _ (places d : ℕ) (q : Queue) (s : SoundIn places d q) (fits : d ≤ places) where
   array-long : (f : Slot → ℕ) (array : Queue → List ℕ) → array (queueOf places (queueIn q)) ≡ padded places (map f (queueIn q .slots))

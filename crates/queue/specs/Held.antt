@@ -15,12 +15,9 @@ use Rattle.queue.specs.declared.Queue.{Queue}
 use Rattle.queue.specs.declared.Placed.{Placed}
 use Rattle.queue.specs.declared.Handed.{Handed}
 
--- The arrays have as many places as a queue holds items; laws keep the two numbers apart.
+-- The arrays have as many places as the card's queues hold items; the laws are for any depth within them.
 abbrev pub places : ℕ
 places = cardSize .depth
-
-abbrev pub depth : ℕ
-depth = cardSize .depth
 
 -- The card's own slots name nothing
 abbrev pub Slot : Type 0
@@ -69,9 +66,9 @@ pub record SoundIn (places d : ℕ) (q : Queue) : Type 0 where
   pub waiting : length (queueIn q .slots) ≤ d
   pub losses : queueIn q .losses ≤ 65535
 
--- a sound record of this card's size
+-- a sound record, whatever depth within its places
 abbrev pub Sound : Queue → Type 0
-Sound q = SoundIn places depth q
+Sound q = SoundIn places places q
 
 -- what an arrival's ruling does
 unfoldable pub placing : (places d : ℕ) → Queue → Ruling → Placed

@@ -6,7 +6,7 @@ ghost use Rattle.paper.specs.Queue as model;
 ghost use Rattle.paper.specs.Queue.{oldest, itemsOf};
 ghost use Rattle.paper.specs.Stream.{images};
 ghost use Rattle.paper.specs.Channel.{written};
-ghost use Rattle.queue.specs.Held.{places, depth, empty, queueOf, queueIn, Sound, placing, ones, handing};
+ghost use Rattle.queue.specs.Held.{places, empty, queueOf, queueIn, SoundIn, Sound, placing, ones, handing};
 use paper::Fate;
 use paper::Item;
 use paper::Ruling;
@@ -17,10 +17,10 @@ pub struct Queue {
     pub count: usize,
     pub losses: u16,
     // 0 plain, 1 doubled, 2 damaged
-    pub kinds: [u8; Queue::DEPTH],
-    pub bytes: [u8; Queue::DEPTH],
+    pub kinds: [u8; Queue::PLACES],
+    pub bytes: [u8; Queue::PLACES],
     // 1 where the item has the overrun flag
-    pub flags: [u8; Queue::DEPTH],
+    pub flags: [u8; Queue::PLACES],
 }
 
 // An arrival's fate, and the queue after it.
@@ -53,16 +53,17 @@ fn count_flags(flags: &[u8]) -> usize
 }
 
 impl Queue {
-    pub const DEPTH: usize = paper::DEPTH;
+    // How many items the arrays can hold: as many as a queue holds, today.
+    pub const PLACES: usize = paper::DEPTH;
 
     // "queues empty, ... loss count 0"
     pub fn fresh() -> Queue
         ensures { λ r. ⌜ r ≡ queueOf places empty ⌝ }
     {
         Queue {
-            kinds: [0u8; Queue::DEPTH],
-            bytes: [0u8; Queue::DEPTH],
-            flags: [0u8; Queue::DEPTH],
+            kinds: [0u8; Queue::PLACES],
+            bytes: [0u8; Queue::PLACES],
+            flags: [0u8; Queue::PLACES],
             count: 0,
             losses: 0,
         }
@@ -70,7 +71,7 @@ impl Queue {
 
     // One more item, the newest, without the overrun flag.
     fn store(mut self, item: Item) -> Queue
-        requires { ⌜ (Sound self) × (self .count < depth) ⌝ }
+        requires { ⌜ (Sound self) × (self .count < places) ⌝ }
         ensures { λ r. ⌜ r ≡ queueOf places (model.stored item tt (queueIn self)) ⌝ }
     {
         let newest = self.count;
@@ -97,11 +98,11 @@ impl Queue {
     }
 
     // "If 12 items wait, the new one is lost"; 02 a: "A loss now happens at thirteen"
-    fn place_item(self, item: Item) -> Placed
-        requires { ⌜ Sound self ⌝ }
+    fn place_item(self, item: Item, depth: usize) -> Placed
+        requires { ⌜ (SoundIn places depth self) × ((0 < depth) × (depth ≤ places)) ⌝ }
         ensures { λ r. ⌜ r ≡ placing places depth self (Ruling.Store item) ⌝ }
     {
-        if self.count < Queue::DEPTH {
+        if self.count < depth {
             return Placed {
                 fate: Fate::Stored,
                 queue: self.store(item),
@@ -113,13 +114,13 @@ impl Queue {
         }
     }
 
-    // What an arrival's ruling does to the queue.
-    pub fn place(self, ruling: Ruling) -> Placed
-        requires { ⌜ Sound self ⌝ }
+    // What an arrival's ruling does to a queue that holds depth items.
+    pub fn place(self, ruling: Ruling, depth: usize) -> Placed
+        requires { ⌜ (SoundIn places depth self) × ((0 < depth) × (depth ≤ places)) ⌝ }
         ensures { λ r. ⌜ r ≡ placing places depth self ruling ⌝ }
     {
         match ruling {
-            Ruling::Store(item) => self.place_item(item),
+            Ruling::Store(item) => self.place_item(item, depth),
             Ruling::StoreNothing(why) => Placed {
                 fate: Fate::Nothing(why),
                 queue: self,
@@ -135,9 +136,9 @@ impl Queue {
         let kinds_before = self.kinds;
         let bytes_before = self.bytes;
         let flags_before = self.flags;
-        let mut kinds = [0u8; Queue::DEPTH];
-        let mut bytes = [0u8; Queue::DEPTH];
-        let mut flags = [0u8; Queue::DEPTH];
+        let mut kinds = [0u8; Queue::PLACES];
+        let mut bytes = [0u8; Queue::PLACES];
+        let mut flags = [0u8; Queue::PLACES];
         arrays::close_up(&kinds_before, n, &mut kinds);
         arrays::close_up(&bytes_before, n, &mut bytes);
         arrays::close_up(&flags_before, n, &mut flags);

@@ -1,4 +1,5 @@
 use native.Mathlib.Omega.{arith}
+use lib.Dec.{lit≤}
 use borrow.Author.Needs.{needs}
 use Rattle.paper.specs.Channel.{arrive}
 use Rattle.paper.specs.declared.Refusal.the-variants.{BadKind}
@@ -20,8 +21,9 @@ arrival-requires : tie.Need-arrival-requires
 arrival-requires c κs = search needs
 
 place-requires : tie.Need-place-requires
-place-requires c κs = queue-sound (c .before .before .before .before .before .args .self)
-    (c .before .before .before .before .before .pre)
+place-requires c κs =
+    let a = c .before .before .before .before .before in
+    (queue-sound (a .args .self) (a .pre), (lit≤ tt, lit≤ tt))
 
 returns-2 : tie.Need-returns-2
 returns-2 c =

@@ -19,7 +19,7 @@ returns c = rw (c .before .before .ruling .given .1) (c .place-item .ensures)
 
 returns-2 : tie.Need-returns-2
 unfolding placing
-returns-2 c = rw (c .before .ruling2 .given .1, ← c .before .before .before .pre .is)
+returns-2 c = rw (c .before .ruling2 .given .1, ← c .before .before .before .pre .0 .is)
 
 pub place-spec : {M : Type 1} → statement M
 place-spec =

@@ -1,7 +1,7 @@
 use native.Mathlib.Omega.{arith}
 use lib.Dec.{lit≤}
 use borrow.Author.Needs.{needs}
-use Rattle.queue.specs.Held.{places, depth}
+use Rattle.queue.specs.Held.{places}
 use Rattle.queue.proofs.Laws.{count-is, kinds-long, bytes-long, flags-long, close, close-sound}
 use Rattle.queue.proofs.Queue.remove.Statement.{statement}
 use Rattle.queue.proofs.Queue.remove.Tie as tie
@@ -16,8 +16,8 @@ close-up-requires : tie.Need-close-up-requires
 close-up-requires c κs =
     let a = c .before .before .before .before .before in
     let s = a .pre .0 in
-    let e = kinds-long places depth (a .args .self) s (lit≤ tt) in
-    (omega (arith, count-is places depth (a .args .self) s, s .waiting), rw e)
+    let e = kinds-long places places (a .args .self) s (lit≤ tt) in
+    (omega (arith, count-is places places (a .args .self) s, s .waiting), rw e)
 
 slice-aggregate-close-up-3 : tie.Need-slice-aggregate-close-up-3
 slice-aggregate-close-up-3 c = search needs
@@ -29,8 +29,8 @@ close-up-requires-2 : tie.Need-close-up-requires-2
 close-up-requires-2 c κs =
     let a = c .before .before .before .before .before .before .before .before .before in
     let s = a .pre .0 in
-    let e = bytes-long places depth (a .args .self) s (lit≤ tt) in
-    (omega (arith, count-is places depth (a .args .self) s, s .waiting), rw e)
+    let e = bytes-long places places (a .args .self) s (lit≤ tt) in
+    (omega (arith, count-is places places (a .args .self) s, s .waiting), rw e)
 
 slice-aggregate-close-up-5 : tie.Need-slice-aggregate-close-up-5
 slice-aggregate-close-up-5 c = search needs
@@ -42,8 +42,8 @@ close-up-requires-3 : tie.Need-close-up-requires-3
 close-up-requires-3 c κs =
     let a = c .before .before .before .before .before .before .before .before .before .before .before .before .before in
     let s = a .pre .0 in
-    let e = flags-long places depth (a .args .self) s (lit≤ tt) in
-    (omega (arith, count-is places depth (a .args .self) s, s .waiting), rw e)
+    let e = flags-long places places (a .args .self) s (lit≤ tt) in
+    (omega (arith, count-is places places (a .args .self) s, s .waiting), rw e)
 
 sub-t25 : tie.Need-sub-t25
 sub-t25 c = search needs
@@ -56,7 +56,7 @@ returns c =
       c .before .before .before .before .before .before .close-up2 .ensures,
       c .before .before .close-up3 .ensures,
     )
-    (close-sound places depth (a .args .n) (a .args .self) (a .pre .0) (a .pre .1) (lit≤ tt))
+    (close-sound places places (a .args .n) (a .args .self) (a .pre .0) (a .pre .1) (lit≤ tt))
 
 pub remove-spec : {M : Type 1} → statement M
 remove-spec =

@@ -1,5 +1,5 @@
 use borrow.Author.Needs.{needs}
-use Rattle.queue.specs.Held.{places, depth}
+use Rattle.queue.specs.Held.{places}
 use Rattle.queue.proofs.Laws.{put-sound, close}
 use Rattle.queue.proofs.Queue.store.Statement.{statement}
 use Rattle.queue.proofs.Queue.store.Tie as tie
@@ -25,7 +25,7 @@ add-self c = search needs
 returns : tie.Need-returns
 returns c =
     let a = c .before .before in
-    rw (c .before .kind-of .ensures, c .byte-of .ensures) (put-sound places depth (a .args .t1) (a .pre .0) (a .args .item) (a .pre .1))
+    rw (c .before .kind-of .ensures, c .byte-of .ensures) (put-sound places places (a .args .t1) (a .pre .0) (a .args .item) (a .pre .1))
 
 pub store-spec : {M : Type 1} → statement M
 store-spec =
