@@ -12,6 +12,9 @@ WORK = os.path.join(ROOT, 'target', 'tests')
 HEADERS = os.path.join(ROOT, 'include')
 LIBRARY = os.path.join(ROOT, 'target', 'staticlib', 'libpapergrotto.a')
 
+if not __debug__:
+    sys.exit('the tests tell what is wrong by assert, so they are not run with -O or PYTHONOPTIMIZE')
+
 
 def told(*command, **words):
     """What a command writes; where it fails, what it said, and the end."""
@@ -25,6 +28,19 @@ def content(name):
     """What a file of the repository has."""
     with open(os.path.join(ROOT, name), 'rb') as file:
         return file.read()
+
+
+def lines_in(data):
+    """How many lines there are; a last one without its newline counts."""
+    return data.count(b'\n') + (data[-1:] not in (b'', b'\n'))
+
+
+def case(program):
+    """What a program is run on, and what it must write: an answer for each line, and not none."""
+    given, wanted = (content(f'crates/{program}/{name}') for name in ('stdin', 'stdout'))
+    if not 0 < lines_in(given) == lines_in(wanted):
+        sys.exit(f'crates/{program} has {lines_in(wanted)} answers to {lines_in(given)} lines')
+    return given, wanted
 
 
 def kit():
@@ -84,5 +100,24 @@ def reference_program():
 
 
 def reference(*words, given=b''):
-    """What the reference writes: ('frames', given=TRACE) are its answers, ('generate', 'mixed', SEED, LINES) is a random trace."""
-    return subprocess.run([reference_program(), *map(str, words)], input=given, stdout=subprocess.PIPE, check=True).stdout
+    """What the reference writes. Where it fails there is nothing to compare with: what it said is on standard error, and this is the end."""
+    ran = subprocess.run([reference_program(), *map(str, words)], input=given, stdout=subprocess.PIPE, check=False)
+    if ran.returncode != 0:
+        sys.exit(f'the reference failed: {" ".join(map(str, words))} ended with status {ran.returncode}')
+    return ran.stdout
+
+
+def generated(*words):
+    """A random trace, as of ('generate', 'mixed', SEED, LINES), with as many lines as the last word asks for."""
+    trace = reference(*words)
+    if lines_in(trace) != words[-1]:
+        sys.exit(f'the reference failed: {" ".join(map(str, words))} gave {lines_in(trace)} lines')
+    return trace
+
+
+def answers(form, trace):
+    """What the reference answers, in the form 'frames', 'reads' or 'stream': a line for each line."""
+    written = reference(form, given=trace)
+    if written.count(b'\n') != lines_in(trace):
+        sys.exit(f'the reference failed: {form} gave {lines_in(written)} answers to {lines_in(trace)} lines')
+    return written

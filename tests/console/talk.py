@@ -16,10 +16,6 @@ command = []        # what starts the program
 started = []        # what this test started, ended after it if need be
 
 
-class Skip(Exception):
-    """The machine has no means for this test."""
-
-
 def start(stdin=subprocess.PIPE, stdout=subprocess.PIPE, before=None):
     process = subprocess.Popen(command, stdin=stdin, stdout=stdout, stderr=subprocess.PIPE, bufsize=0, preexec_fn=before)
     started.append(process)
@@ -147,4 +143,4 @@ def most_memory(process):
         for line in file:
             if line.startswith('VmHWM:'):
                 return int(line.split()[1]) * 1024
-    raise Skip('the machine does not tell a process\'s memory')
+    raise AssertionError('the machine does not tell a process\'s memory')

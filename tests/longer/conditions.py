@@ -51,10 +51,10 @@ class Record:
 
 
 def records_of(lines, account):
-    """The records of a trace's lines, from the account that the reference gives of them."""
+    """The records of a trace's lines, from the account that the reference gives of them: a card for the start, and one after each line."""
     cards = [json.loads(told, object_hook=lambda parts: Told(**parts)) for told in account.splitlines()]
     past = []
-    for line, before, after in zip(lines, cards, cards[1:]):
+    for line, before, after in zip(lines, cards[:-1], cards[1:], strict=True):
         past.append(Record(line, before, after, past[:]))
     return past
 

@@ -56,7 +56,7 @@ def shortest_case(cases, ours, theirs, asked, answering):
     lines = zip(*(lines_of(text)[0] for text in (cases, ours, theirs)))
     case = next((case for case, one, other in lines if one != other), None)
     if case is None:
-        yield 'fewer answers than cases'
+        yield 'there is another number of answers than of cases'
         return
     first, second, digits = case.split(b' ')
     stream = [digits[at:at + 2] for at in range(0, len(digits), 2)] if digits != b'-' else []

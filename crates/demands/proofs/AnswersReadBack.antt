@@ -1,4 +1,4 @@
--- An answer can be read back from its line, where the frame is known.
+-- Which answers a call can have; and that an answer can be read back from its line, where the frame is known.
 use mathlib.Core.Path.{_≡_, refl, sym, ap, _∙_}
 use mathlib.Core.Bool.{Bool, true, false, _&&_, _||_}
 use mathlib.Core.List.{List, [], _∷_}
@@ -6,7 +6,7 @@ use mathlib.Core.Option.{Option, none, some}
 use Prim.Native.Nat.{ℕ, _+_, _*_, _/_, _%_, _≤_, _<_}
 use native.Mathlib.Omega.{arith}
 use lib.Dec.{eqb, ltb}
-use lib.ListN.{length, getD, drop}
+use lib.ListN.{length, getD, take, drop}
 use borrow.Author.Tests.{ltb-false, ne-eqb}
 use Rattle.paper.specs.Choice.{if_then_else_}
 use Rattle.paper.specs.Given.{Given}
@@ -32,7 +32,82 @@ use Rattle.demands.proofs.Choices.{chosen-or, either}
 use Rattle.demands.proofs.Cases.{by-number, by-pick}
 use Rattle.demands.proofs.Port.{written-found}
 
--- READING A LINE
+-- WHICH ANSWERS A CALL CAN HAVE, by its frame's first byte; of a read, the bytes found from the place on are as many as it says
+pub data AnswersTo : (frame : ℕ) → Answer → (found : List ℕ) → Type 0 where
+  refusal : {frame : ℕ} {found : List ℕ} (r : Refusal) → AnswersTo frame (Refused r) found
+  fate : {found : List ℕ} (f : Fate) → AnswersTo 0x01 (Fated f) found
+  reading : {found : List ℕ} (characters flagged bytes : ℕ) → length (take bytes found) ≡ bytes → AnswersTo 0x02 (Handed characters flagged bytes) found
+  loading : {found : List ℕ} (n : ℕ) → AnswersTo 0x03 (Took n) found
+  silence : {found : List ℕ} → AnswersTo 0x04 Silent found
+  sent : {found : List ℕ} (b : ℕ) → AnswersTo 0x04 (Sent b) found
+  cts : {found : List ℕ} → AnswersTo 0x05 Done found
+  special : {found : List ℕ} → AnswersTo 0x06 Done found
+  settings : {found : List ℕ} → AnswersTo 0x07 Done found
+  named : {found : List ℕ} (n : ℕ) → n < 4 → AnswersTo 0x08 (Picked n) found
+  nobody : {found : List ℕ} → AnswersTo 0x08 NoneReady found
+  renewal : {found : List ℕ} → AnswersTo 0x09 Done found
+  showing : {found : List ℕ} (waiting sending : ℕ) (stopped : Bool) (losses : ℕ) → AnswersTo 0x0A (Shown waiting sending stopped losses) found
+
+-- what a call gives is such an answer
+pub record Answers (frame place : ℕ) {S : Type 0} (g : Given S) : Type 0 where
+  pub is : AnswersTo frame (g .answer) (drop place (g .lent))
+
+answers : {frame place : ℕ} {S : Type 0} {g : Given S} → AnswersTo frame (g .answer) (drop place (g .lent)) → Answers frame place g
+answers p = record { is = p }
+
+module _ {A : Type 0} (z : Size) (a : A) (h : Channel A) (n : ℕ) where
+  read-answers : (count place : ℕ) (buffer : List ℕ) → place ≤ length buffer → Answers 0x02 place (handedOver h count place buffer)
+  read-answers count place buffer inside =
+      answers (reading _ _ _ (ap length (written-found buffer (images (itemsOf (oldest count (h .queue)))) place inside)))
+
+  settings-answers : (l : List ℕ) (o : Option ℕ) → Answers 0x07 0 (settingsTaken h l o)
+  settings-answers l (some field) = answers (refusal _)
+  settings-answers l none = answers settings
+
+  transmit-answers : (c : TransmitCall)
+      → Answers (frameOf (on n (transmit c))) 0 (transmitStep (h .settings) (h .flags) (h .transmitter) c)
+  unfolding transmitStep loaded
+  transmit-answers (load l) = answers (loading _)
+  transmit-answers turn = turn-answers (h .transmitter .special)
+    where
+      next-answers : (owed : Bool) (queue : List ℕ) → Answers 0x04 0 (sendNext (h .settings) (h .transmitter) owed queue)
+      next-answers true queue = answers (sent _)
+      next-answers false [] = answers silence
+      next-answers false (b ∷ rest) =
+          either (Answers 0x04 0) (eqb (h .settings .expand) 1 && eqb b NL) (answers (sent _)) (answers (sent _))
+
+      turn-answers : (w : Option ℕ) → Answers 0x04 0 (turned (h .settings) (h .flags) (h .transmitter) w)
+      turn-answers (some b) = answers (sent _)
+      turn-answers none =
+          either (Answers 0x04 0) (held (h .settings) (h .flags) (h .transmitter)) (answers silence)
+          (next-answers (h .transmitter .owed) (h .transmitter .bytes))
+  transmit-answers (setCts v) = either (Answers 0x05 0) (ltb 1 v) (answers (refusal _)) (answers cts)
+  transmit-answers (askSpecial s) =
+      either (Answers 0x06 0) (ltb s 1 || ltb 4 s) (answers (refusal _)) (special-answers (h .transmitter .special))
+    where
+      special-answers : (w : Option ℕ) → Answers 0x06 0 (specialTaken (h .settings) (h .transmitter) s w)
+      special-answers (some b) = answers (refusal _)
+      special-answers none = answers special
+
+  pub channel-answers : (c : ChannelCall) → Answers (frameOf (on n c)) (placeOf c) (channelStep z a h c)
+  unfolding channelStep noRoom
+  channel-answers (arrive kind b) = either (Answers 0x01 0) (ltb 3 kind) (answers (refusal _)) (answers (fate _))
+  channel-answers (read count place buffer) =
+      either (Answers 0x02 place) (ltb (z .most) count) (answers (refusal _))
+      (chosen-or (Answers 0x02 place) (ltb (length buffer) place) (ltb (length buffer) (place + 3 * count))
+      (λ _. answers (refusal _)) (λ _. answers (refusal _)) (λ e _. read-answers count place buffer (ltb-false _ _ e)))
+  channel-answers (takeSettings l) = settings-answers l (badField (z .most) l)
+  channel-answers reset = answers renewal
+  channel-answers state = answers (showing _ _ _ _)
+  channel-answers (transmit c) = answers (transmit-answers c .is)
+
+card-answers : {A : Type 0} (z : Size) (a : A) (K : Card A) (c : Call) → Answers (frameOf c) (placeOn c) (step z a K c)
+card-answers z a K (on n c) =
+    by-number z a K (Answers (frameOf (on n c)) (placeOf c)) n c (λ _. answers (refusal _))
+    (λ _. answers (channel-answers z a (at K n) n c .is))
+card-answers z a K pick = by-pick z a K (Answers 0x08 0) (answers nobody) (λ n small. answers (named n small))
+
+-- READING THEM BACK, by the frame's first byte, the first number, and those behind it; how many bytes there are and the loss count are read apart
 
 abbrev refusalIn : (number value : ℕ) → Refusal
 refusalIn n v =
@@ -57,31 +132,7 @@ fateIn n =
     if eqb n 4 then Nothing BreakIgnored else
     Nothing EndingDiscarded
 
--- behind 00, by the frame's first byte
-abbrev servedIn : (frame : ℕ) → List ℕ → Answer
-servedIn frame l =
-    let value : ℕ → ℕ = λ i. getD l i 0 in
-    if eqb frame 0x01 then Fated (fateIn (value 0)) else
-    if eqb frame 0x02 then Handed (value 0) (value 1) (length (drop 2 l)) else
-    if eqb frame 0x03 then Took (value 0) else
-    if eqb frame 0x04 then (if eqb (value 0) 0 then Silent else Sent (value 1)) else
-    if eqb frame 0x08 then (if eqb (value 0) 0xFF then NoneReady else Picked (value 0)) else
-    if eqb frame 0x0A then Shown (value 0) (value 1) (eqb (value 2) 1) (value 3 * 256 + value 4) else
-    Done
-
-abbrev answerIn : (frame : ℕ) → List ℕ → Answer
-answerIn frame l = if eqb (getD l 0 0) 0 then servedIn frame (drop 1 l) else Refused (refusalIn (getD l 0 0) (getD l 1 0))
-
--- EACH CALL'S ANSWER
-
--- what is read from the line of what a call gives is its answer
-record Reads (frame place : ℕ) {S : Type 0} (g : Given S) : Type 0 where
-  is : answerIn frame (numbers (g .answer) (drop place (g .lent))) ≡ g .answer
-
-reads : {frame place : ℕ} {S : Type 0} {g : Given S} → answerIn frame (numbers (g .answer) (drop place (g .lent))) ≡ g .answer → Reads frame place g
-reads e = record { is = e }
-
-fate-read : (f : Fate) → fateIn (fateNumber f) ≡ f
+pub fate-read : (f : Fate) → fateIn (fateNumber f) ≡ f
 fate-read Stored = refl
 fate-read (Nothing FlowSwallowed) = refl
 fate-read (Nothing DamagedDiscarded) = refl
@@ -89,71 +140,53 @@ fate-read (Nothing BreakIgnored) = refl
 fate-read (Nothing EndingDiscarded) = refl
 fate-read Lost = refl
 
-state-read : (waiting sending : ℕ) (stopped : Bool) (losses : ℕ)
-    → let a : Answer = Shown waiting sending stopped losses in
-    answerIn 0x0A (numbers a []) ≡ a
-state-read waiting sending stopped losses = go stopped
-  where
-    whole : losses / 256 * 256 + losses % 256 ≡ losses
-    whole = omega arith
+abbrev pub answerIn : (frame number : ℕ) → List ℕ → (bytes losses : ℕ) → Answer
+answerIn frame number l bytes losses =
+    let value : ℕ → ℕ = λ i. getD l i 0 in
+    if eqb number 0 then
+    (if eqb frame 0x01 then Fated (fateIn (value 0)) else
+    if eqb frame 0x02 then Handed (value 0) (value 1) bytes else
+    if eqb frame 0x03 then Took (value 0) else
+    if eqb frame 0x04 then (if eqb (value 0) 0 then Silent else Sent (value 1)) else
+    if eqb frame 0x08 then (if eqb (value 0) 0xFF then NoneReady else Picked (value 0)) else
+    if eqb frame 0x0A then Shown (value 0) (value 1) (eqb (value 2) 1) losses else
+    Done) else
+    Refused (refusalIn number (value 0))
 
-    go : (stopped : Bool)
-        → let a : Answer = Shown waiting sending stopped losses in
-        answerIn 0x0A (numbers a []) ≡ a
-    go true = ap (Shown waiting sending true) whole
-    go false = ap (Shown waiting sending false) whole
+-- a channel's number is not that of none
+pub named-not-none : (n : ℕ) → n < 4 → eqb n 0xFF ≡ false
+named-not-none n small = ne-eqb n 0xFF (λ e. absurd (omega (arith, small, e)))
 
-module _ {A : Type 0} (z : Size) (a : A) (h : Channel A) (n : ℕ) where
-  read-read : (count place : ℕ) (buffer : List ℕ) → place ≤ length buffer → Reads 0x02 place (handedOver h count place buffer)
-  read-read count place buffer inside =
-      let out = oldest count (h .queue) in
-      reads (ap (λ (l : List ℕ). Handed (length out) (overruns out) (length l)) (written-found buffer (images (itemsOf out)) place inside))
+-- from a line
+abbrev lineIn : (frame : ℕ) → List ℕ → Answer
+lineIn frame l = answerIn frame (getD l 0 0) (drop 1 l) (length (drop 3 l)) (getD l 4 0 * 256 + getD l 5 0)
 
-  settings-read : (l : List ℕ) (o : Option ℕ) → Reads 0x07 0 (settingsTaken h l o)
-  settings-read l (some field) = reads refl
-  settings-read l none = reads refl
-
-  transmit-read : (c : TransmitCall)
-      → Reads (frameOf (on n (transmit c))) 0 (transmitStep (h .settings) (h .flags) (h .transmitter) c)
-  unfolding transmitStep loaded
-  transmit-read (load l) = reads refl
-  transmit-read turn = turn-read (h .transmitter .special)
-    where
-      next-read : (owed : Bool) (queue : List ℕ) → Reads 0x04 0 (sendNext (h .settings) (h .transmitter) owed queue)
-      next-read true queue = reads refl
-      next-read false [] = reads refl
-      next-read false (b ∷ rest) = either (Reads 0x04 0) (eqb (h .settings .expand) 1 && eqb b NL) (reads refl) (reads refl)
-
-      turn-read : (w : Option ℕ) → Reads 0x04 0 (turned (h .settings) (h .flags) (h .transmitter) w)
-      turn-read (some b) = reads refl
-      turn-read none =
-          either (Reads 0x04 0) (held (h .settings) (h .flags) (h .transmitter)) (reads refl) (next-read (h .transmitter .owed) (h .transmitter .bytes))
-  transmit-read (setCts v) = either (Reads 0x05 0) (ltb 1 v) (reads refl) (reads refl)
-  transmit-read (askSpecial s) = either (Reads 0x06 0) (ltb s 1 || ltb 4 s) (reads refl) (special-read (h .transmitter .special))
-    where
-      special-read : (w : Option ℕ) → Reads 0x06 0 (specialTaken (h .settings) (h .transmitter) s w)
-      special-read (some b) = reads refl
-      special-read none = reads refl
-
-  channel-read : (c : ChannelCall) → Reads (frameOf (on n c)) (placeOf c) (channelStep z a h c)
-  unfolding channelStep noRoom
-  channel-read (arrive kind b) = either (Reads 0x01 0) (ltb 3 kind) (reads refl) (reads (ap Fated (fate-read _)))
-  channel-read (read count place buffer) =
-      either (Reads 0x02 place) (ltb (z .most) count) (reads refl)
-      (chosen-or (Reads 0x02 place) (ltb (length buffer) place) (ltb (length buffer) (place + 3 * count)) (λ _. reads refl) (λ _. reads refl)
-      (λ e _. read-read count place buffer (ltb-false _ _ e)))
-  channel-read (takeSettings l) = settings-read l (badField (z .most) l)
-  channel-read reset = reads refl
-  channel-read state = reads (state-read _ _ _ _)
-  channel-read (transmit c) = reads (transmit-read c .is)
-
-card-read : {A : Type 0} (z : Size) (a : A) (K : Card A) (c : Call) → Reads (frameOf c) (placeOn c) (step z a K c)
-card-read z a K (on n c) =
-    by-number z a K (Reads (frameOf (on n c)) (placeOf c)) n c (λ _. reads refl)
-    (λ _. reads (channel-read z a (at K n) n c .is))
-card-read z a K pick =
-    by-pick z a K (Reads 0x08 0) (reads refl)
-    (λ n small. reads (let e : eqb n 0xFF ≡ false = ne-eqb n 0xFF (λ e. absurd (omega (arith, small, e))) in rw e))
+line-read : {frame : ℕ} {a : Answer} {found : List ℕ} → AnswersTo frame a found → lineIn frame (numbers a found) ≡ a
+line-read (refusal BadChannel) = refl
+line-read (refusal BadKind) = refl
+line-read (refusal TooMany) = refl
+line-read (refusal NoRoom) = refl
+line-read (refusal (BadField field)) = refl
+line-read (refusal BadSpecial) = refl
+line-read (refusal SpecialWaits) = refl
+line-read (refusal (BrokenStream place)) = refl
+line-read (refusal ShortOutput) = refl
+line-read (refusal BadCts) = refl
+line-read (refusal BadLine) = refl
+line-read (fate f) = ap Fated (fate-read f)
+line-read (reading characters flagged bytes e) = ap (Handed characters flagged) e
+line-read (loading n) = refl
+line-read silence = refl
+line-read (sent b) = refl
+line-read cts = refl
+line-read special = refl
+line-read settings = refl
+line-read (named n small) = rw (named-not-none n small)
+line-read nobody = refl
+line-read renewal = refl
+line-read (showing waiting sending true losses) = ap (Shown waiting sending true) (omega arith)
+line-read (showing waiting sending false losses) = ap (Shown waiting sending false) (omega arith)
 
 pub answers-read-back : AnswersReadBack
-answers-read-back A z a b K L c d frame line = sym (card-read z a K c .is) ∙ rw (frame, line) (card-read z b L d .is)
+answers-read-back A z a b K L c d frame line =
+    sym (line-read (card-answers z a K c .is)) ∙ rw (frame, line) (line-read (card-answers z b L d .is))

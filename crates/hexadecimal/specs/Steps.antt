@@ -31,7 +31,7 @@ pub record Paired (piece : List ℕ) (from : ℕ) (before : List ℕ) (count : �
   pub room : length after ≡ mostBytes
   pub few : count ≤ mostBytes
 
--- A line read on up to its newline, or the piece's end
+-- A line read on, past its newline or to a place further on in it
 pub record Follows (piece : List ℕ) (from : ℕ) (line : LineSoFar) (before : List ℕ) (r : Cut) (after : List ℕ) : Type 0 where
   pub same : (z : Size) (K : Card Unit) (rest : List ℕ)
       → left z K line before (drop from piece ++ rest) ≡ leftAfter (r .ended) z K (r .line) after (drop (r .at) piece ++ rest)

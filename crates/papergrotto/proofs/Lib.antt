@@ -1,4 +1,5 @@
 pub mod Laws
 pub mod One
 pub mod Runs
+pub mod Told
 pub mod Walk

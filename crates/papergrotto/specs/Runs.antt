@@ -11,6 +11,7 @@ use Rattle.demands.specs.History.{Entry}
 use Rattle.demands.specs.Demands.{history, after}
 use Rattle.channel.specs.declared.Channel.{Channel}
 use Rattle.channel.specs.Held.{channelOf}
+use Rattle.channel.specs.Promise.{given}
 use Rattle.telling.specs.declared.Told.{Told}
 use Rattle.telling.specs.Told.{told}
 use Rattle.papergrotto.specs.Promise.{Promise}
@@ -36,7 +37,7 @@ heard e = record { told = told (e .answer); lent = e .lent }
 
 -- A RECORD IS THE PAPER'S CHANNEL: of every list of calls on a fresh record C sees what the port's history tells, and they leave the record of the
 -- channel after it; and every list of calls can be so made, each on a record that the call before it left sound. So whatever `demands` proves of the
--- history of a port, demands 2 and 3 among it, holds of what C is told.
+-- history of a port, demands 2 and 3 among it, holds of what C is told, and `ToldReadBack` says that nothing of an answer is lost in the telling.
 pub record RecordAsThePaper : Type 0 where
   pub shows : (n : ℕ) → n < 4 → (calls : List ChannelCall) (hs : List Heard) (d : Channel) → Called (channelOf cardSize fresh) calls hs d
       → hs ≡ map heard (history cardSize n (onPort n calls))
@@ -46,3 +47,7 @@ pub record RecordAsThePaper : Type 0 where
       → Called (channelOf cardSize fresh) calls (map heard (history cardSize n (onPort n calls))) (channelOf cardSize (after cardSize n (onPort n calls)))
   -- a reset is no call of C's: a fresh record is stored, and there is nothing to tell
   pub resets : (c : Channel) → Promise c reset (told Done) (channelOf cardSize fresh) []
+
+-- an answer can be read back from what C is told: records that are asked alike and tell alike give the same answer
+abbrev pub ToldReadBack : Type 0
+ToldReadBack = (c d : Channel) (call : ChannelCall) → told (given c call .answer) ≡ told (given d call .answer) → given c call .answer ≡ given d call .answer
