@@ -2,12 +2,12 @@
 use mathlib.Core.Path.{_≡_, refl, sym, ap, _∙_}
 use mathlib.Core.Bool.{Bool, true, false, _&&_, _||_}
 use mathlib.Core.List.{List, [], _∷_}
-use mathlib.Core.Option.{Option, none, some}
+use mathlib.Core.Option.{Option, none, some, Option·some-ne-none}
 use Prim.Native.Nat.{ℕ, _+_, _*_, _/_, _%_, _≤_, _<_}
 use native.Mathlib.Omega.{arith}
-use lib.Dec.{eqb, ltb}
+use lib.Dec.{eqb, leb, ltb}
 use lib.ListN.{length, getD, take, drop}
-use borrow.Author.Tests.{ltb-false, ne-eqb}
+use borrow.Author.Tests.{eqb-true, ltb-false, ne-eqb}
 use Rattle.paper.specs.Choice.{if_then_else_}
 use Rattle.paper.specs.Given.{Given}
 use Rattle.paper.specs.Settings.{Size, badField}
@@ -16,6 +16,7 @@ use Rattle.paper.specs.Arrival.{NL}
 use Rattle.paper.specs.Queue.{oldest, itemsOf, overruns, place}
 use Rattle.paper.specs.Stream.{images}
 use Rattle.paper.specs.Numbers.{fateNumber, numbers}
+use Rattle.paper.specs.Frames.{callOf}
 use Rattle.paper.specs.Transmitter.{TransmitCall, load, turn, setCts, askSpecial, loaded, sendNext, held, turned, specialTaken, transmitStep}
 use Rattle.paper.specs.Channel.{Channel, ChannelCall, arrive, read, takeSettings, reset, state, transmit, placeOf, noRoom, handedOver, settingsTaken, channelStep}
 use Rattle.paper.specs.Card.{Card, Call, on, pick, placeOn, step, at}
@@ -28,7 +29,7 @@ use Rattle.paper.specs.declared.Answer.{Answer}
 use Rattle.paper.specs.declared.Answer.the-variants.{Refused, Fated, Handed, Took, Silent, Sent, Done, Shown, Picked, NoneReady}
 use Rattle.demands.specs.Spelling.{frameOf}
 use Rattle.demands.specs.Demands.{AnswersReadBack}
-use Rattle.demands.proofs.Choices.{chosen-or, either}
+use Rattle.demands.proofs.Choices.{chosen-or, chosen-and, either}
 use Rattle.demands.proofs.Cases.{by-number, by-pick}
 use Rattle.demands.proofs.Port.{written-found}
 
@@ -187,6 +188,36 @@ line-read renewal = refl
 line-read (showing waiting sending true losses) = ap (Shown waiting sending true) (omega arith)
 line-read (showing waiting sending false losses) = ap (Shown waiting sending false) (omega arith)
 
+-- THE FRAME OF A CALL
+
+-- a call, if there is one, has this frame's first byte
+record Begins (f : List ℕ) (o : Option Call) : Type 0 where
+  is : (c : Call) → o ≡ some c → frameOf c ≡ getD f 0 0
+
+module _ (z : Size) (f : List ℕ) where
+  row : (first : ℕ) (c : Call) → frameOf c ≡ first → eqb (getD f 0 0) first ≡ true → Begins f (some c)
+  row first c e t = record { is = λ d same. let it : c ≡ d = cc in ap frameOf (sym it) ∙ e ∙ sym (eqb-true _ _ t) }
+
+  begins : Begins f (callOf z f)
+  unfolding callOf
+  begins =
+      let long = length f in
+      chosen-and (Begins f) (eqb (getD f 0 0) 0x01) (eqb long 4) (λ t _. row 0x01 _ refl t)
+      (chosen-and (Begins f) (eqb (getD f 0 0) 0x02) (eqb long 3) (λ t _. row 0x02 _ refl t)
+      (chosen-and (Begins f) (eqb (getD f 0 0) 0x03) (leb 2 long) (λ t _. row 0x03 _ refl t)
+      (chosen-and (Begins f) (eqb (getD f 0 0) 0x04) (eqb long 2) (λ t _. row 0x04 _ refl t)
+      (chosen-and (Begins f) (eqb (getD f 0 0) 0x05) (eqb long 3) (λ t _. row 0x05 _ refl t)
+      (chosen-and (Begins f) (eqb (getD f 0 0) 0x06) (eqb long 3) (λ t _. row 0x06 _ refl t)
+      (chosen-and (Begins f) (eqb (getD f 0 0) 0x07) (leb 2 long) (λ t _. row 0x07 _ refl t)
+      (chosen-and (Begins f) (eqb (getD f 0 0) 0x08) (eqb long 1) (λ t _. row 0x08 _ refl t)
+      (chosen-and (Begins f) (eqb (getD f 0 0) 0x09) (eqb long 2) (λ t _. row 0x09 _ refl t)
+      (chosen-and (Begins f) (eqb (getD f 0 0) 0x0A) (eqb long 2) (λ t _. row 0x0A _ refl t)
+      (record { is = λ c e. absurd (Option·some-ne-none c (sym e)) }))))))))))
+
 pub answers-read-back : AnswersReadBack
-answers-read-back A z a b K L c d frame line =
-    sym (line-read (card-answers z a K c .is)) ∙ rw (frame, line) (line-read (card-answers z b L d .is))
+answers-read-back =
+    record {
+      frame = λ z f. begins z f .is;
+      answer = λ A z a b K L c d frame line.
+          sym (line-read (card-answers z a K c .is)) ∙ rw (frame, line) (line-read (card-answers z b L d .is));
+    }

@@ -64,7 +64,7 @@ unfolding traced
 end-cases = record { nothing = refl; newline-alone = refl; unended = refl; half-a-byte = refl }
 
 pub number-cases : NumberCases
-number-cases = record { refusals = refl; handed = refl; shown = refl; all-lost = refl }
+number-cases = record { refusals = refl; handed = refl; handed-inside = refl; shown = refl; all-lost = refl }
 
 pub whole-case : WholeCase
 unfolding traced

@@ -16,7 +16,7 @@ use Rattle.paper.specs.Card.{Card, freshCard, Call, on, pick, placeOn, step, at
 use Rattle.paper.specs.Run.{Named, run, seen, end, nameless}
 use Rattle.paper.specs.Bounds.{Sound}
 use Rattle.paper.specs.Numbers.{numbers}
-use Rattle.paper.specs.Frames.{newline, answered, reply, lines}
+use Rattle.paper.specs.Frames.{newline, callOf, answered, reply, lines}
 use Rattle.paper.specs.declared.Settings.{Settings}
 use Rattle.paper.specs.declared.Flags.{Flags}
 use Rattle.paper.specs.declared.Item.{Item}
@@ -65,13 +65,13 @@ pub record TextLines : Type 0 where
 
 -- an answer can be read back from its line: calls with the same first byte of their frames that are answered by the same bytes have the same answer,
 -- whatever else they bring, on whatever cards
-abbrev pub AnswersReadBack : Type 1
-AnswersReadBack =
-    (A : Type 0) (z : Size) (a b : A) (K L : Card A) (c d : Call)
-    → let g = step z a K c in
-    let h = step z b L d in
-    frameOf c ≡ frameOf d → numbers (g .answer) (drop (placeOn c) (g .lent)) ≡ numbers (h .answer) (drop (placeOn d) (h .lent))
-    → g .answer ≡ h .answer
+pub record AnswersReadBack : Type 1 where
+  pub frame : (z : Size) (f : List ℕ) (c : Call) → callOf z f ≡ some c → frameOf c ≡ getD f 0 0
+  pub answer : (A : Type 0) (z : Size) (a b : A) (K L : Card A) (c d : Call)
+      → let g = step z a K c in
+      let h = step z b L d in
+      frameOf c ≡ frameOf d → numbers (g .answer) (drop (placeOn c) (g .lent)) ≡ numbers (h .answer) (drop (placeOn d) (h .lent))
+      → g .answer ≡ h .answer
 
 -- "shown of a fresh one and kept by every call"
 pub record Bounds : Type 1 where

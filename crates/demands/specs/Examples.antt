@@ -5,12 +5,12 @@ use mathlib.Core.List.{List, [], _∷_, _++_, map}
 use mathlib.Core.Option.{Option, none, some}
 use Prim.Native.Nat.{ℕ, _+_, _-_}
 use Prim.Native.String.{String}
-use lib.ListN.{set, take, replicate}
+use lib.ListN.{set, take, drop, replicate}
 use Rattle.paper.specs.Settings.{cardSize, freshBytes, badField}
 use Rattle.paper.specs.Queue.{itemsOf, overrun}
 use Rattle.paper.specs.Stream.{images, decode, cleanFront}
 use Rattle.paper.specs.Channel.{Channel, fresh, ChannelCall, arrive, read, takeSettings, reset, state, channelStep}
-use Rattle.paper.specs.Card.{freshCard, Call, on, pick, step}
+use Rattle.paper.specs.Card.{freshCard, Call, on, pick, placeOn, step}
 use Rattle.paper.specs.Run.{Named, end, nameless}
 use Rattle.paper.specs.Numbers.{refusalNumbers, numbers}
 use Rattle.paper.specs.Frames.{newline, program}
@@ -277,8 +277,8 @@ pub record EndCases : Type 0 where
   pub unended : program cardSize (text "0A00\n08") ≡ text "000000000000\n00FF\n"
   pub half-a-byte : program cardSize (text "08\n0") ≡ text "00FF\n0B\n"
 
--- the numbers of each refusal, "5 is followed by its field" and 8 by "the place of the offending FF"; of a read "characters, flagged, bytes"; of a state
--- "waiting, transmit waiting, stopped, loss high, loss low"
+-- the numbers of each refusal, "5 is followed by its field" and 8 by "the place of the offending FF"; of a read "characters, flagged, bytes", those of
+-- ReadCases.inside from its place on; of a state "waiting, transmit waiting, stopped, loss high, loss low"
 pub record NumberCases : Type 0 where
   pub refusals : map refusalNumbers
       (BadChannel ∷ BadKind ∷ TooMany ∷ NoRoom ∷ BadField 12 ∷ BadSpecial ∷ SpecialWaits ∷ BrokenStream 7 ∷ ShortOutput ∷ BadCts ∷ BadLine ∷ [])
@@ -295,6 +295,8 @@ pub record NumberCases : Type 0 where
       ∷ (11 ∷ [])
       ∷ []
   pub handed : numbers (Handed 2 1 4) (0xFF ∷ 0x00 ∷ 0x41 ∷ 0x42 ∷ 9 ∷ []) ≡ 0 ∷ 2 ∷ 1 ∷ 0xFF ∷ 0x00 ∷ 0x41 ∷ 0x42 ∷ []
+  pub handed-inside : numbers (Handed 2 0 4) (drop (placeOn (on 0 (read 2 1 (replicate 8 9)))) (1 ∷ 0xFF ∷ 0x00 ∷ 0x41 ∷ 0x42 ∷ 6 ∷ 7 ∷ 8 ∷ []))
+      ≡ 0 ∷ 2 ∷ 0 ∷ 0xFF ∷ 0x00 ∷ 0x41 ∷ 0x42 ∷ []
   pub shown : numbers (Shown 12 3 true 0xABCD) [] ≡ 0 ∷ 12 ∷ 3 ∷ 1 ∷ 0xAB ∷ 0xCD ∷ []
   pub all-lost : numbers (Shown 0 0 false 65535) [] ≡ 0 ∷ 0 ∷ 0 ∷ 0 ∷ 0xFF ∷ 0xFF ∷ []
 
