@@ -1,13 +1,13 @@
 -- Which answers a call can have; and that an answer can be read back from its line, where the frame is known.
-use mathlib.Core.Path.{_≡_, refl, sym, ap, _∙_}
+use mathlib.Core.Path.{_≡_, refl, sym, ap, subst, _∙_}
 use mathlib.Core.Bool.{Bool, true, false, _&&_, _||_}
 use mathlib.Core.List.{List, [], _∷_}
 use mathlib.Core.Option.{Option, none, some, Option·some-ne-none}
-use Prim.Native.Nat.{ℕ, _+_, _*_, _/_, _%_, _≤_, _<_}
+use Prim.Native.Nat.{ℕ, suc, _+_, _-_, _*_, _/_, _%_, _≤_, _<_}
 use native.Mathlib.Omega.{arith}
 use lib.Dec.{eqb, leb, ltb}
 use lib.ListN.{length, getD, take, drop}
-use borrow.Author.Tests.{eqb-true, ltb-false, ne-eqb}
+use borrow.Author.Tests.{eqb-true, ltb-true, ltb-false, ne-eqb}
 use Rattle.paper.specs.Choice.{if_then_else_}
 use Rattle.paper.specs.Given.{Given}
 use Rattle.paper.specs.Settings.{Size, badField}
@@ -16,7 +16,7 @@ use Rattle.paper.specs.Arrival.{NL}
 use Rattle.paper.specs.Queue.{oldest, itemsOf, place}
 use Rattle.paper.specs.Stream.{images}
 use Rattle.paper.specs.Numbers.{refusalNumbers, fateNumber, numbers}
-use Rattle.paper.specs.Frames.{callOf}
+use Rattle.paper.specs.Frames.{callOf, capital, hexadecimal}
 use Rattle.paper.specs.Transmitter.{TransmitCall, load, turn, setCts, askSpecial, loaded, sendNext, held, turned, specialTaken, transmitStep}
 use Rattle.paper.specs.Channel.{Channel, ChannelCall, arrive, read, takeSettings, reset, state, transmit, placeOf, noRoom, handedOver, settingsTaken, channelStep}
 use Rattle.paper.specs.Card.{Card, Call, on, pick, placeOn, step, at}
@@ -27,9 +27,10 @@ use Rattle.paper.specs.declared.Refusal.{Refusal}
 use Rattle.paper.specs.declared.Refusal.the-variants.{BadChannel, BadKind, TooMany, NoRoom, BadField, BadSpecial, SpecialWaits, BrokenStream, ShortOutput, BadCts, BadLine}
 use Rattle.paper.specs.declared.Answer.{Answer}
 use Rattle.paper.specs.declared.Answer.the-variants.{Refused, Fated, Handed, Took, Silent, Sent, Done, Shown, Picked, NoneReady}
-use Rattle.demands.specs.Spelling.{frameOf}
+use Rattle.demands.specs.Spelling as spelling
+use Rattle.demands.specs.Spelling.{Digit, figure, Spells, empty, byte, frameOf}
 use Rattle.demands.specs.Demands.{AnswersReadBack}
-use Rattle.demands.proofs.Choices.{chosen-or, chosen-and, either}
+use Rattle.demands.proofs.Choices.{chosen, chosen-or, chosen-and, either}
 use Rattle.demands.proofs.Cases.{by-number, by-pick}
 use Rattle.demands.proofs.Port.{written-found}
 
@@ -220,9 +221,30 @@ module _ (z : Size) (f : List ℕ) where
       (chosen-and (Begins f) (eqb (getD f 0 0) 0x0A) (eqb long 2) (λ t _. row 0x0A _ refl t)
       (record { is = λ c e. absurd (Option·some-ne-none c (sym e)) }))))))))))
 
+-- WHAT IS PRINTED
+
+digit-of : (d : ℕ) → d < 16 → Digit (capital d) d
+digit-of d small =
+    chosen (λ (c : ℕ). Digit c d) (ltb d 10)
+    (λ e. let same : 48 + d ≡ d + 48 = omega arith in subst (λ (c : ℕ). Digit c d) same (figure d (ltb-true d 10 e)))
+    (λ e.
+    let more : 10 ≤ d = ltb-false d 10 e in
+    let same : 65 + (d - 10) ≡ d + 55 = omega arith in
+    let value : 10 + (d - 10) ≡ d = omega arith in
+    subst (λ (v : ℕ). Digit (d + 55) v) value (subst (λ (c : ℕ). Digit c (10 + (d - 10))) same (spelling.capital (d - 10) (omega arith))))
+
+spelled : (l : List ℕ) → ((i : ℕ) → getD l i 0 < 256) → Spells (hexadecimal l) l
+spelled [] small = empty
+spelled (b ∷ l) small =
+    let low : b < 256 = small 0 in
+    let whole : b / 16 * 16 + b % 16 ≡ b = omega arith in
+    subst (λ (x : ℕ). Spells (hexadecimal (b ∷ l)) (x ∷ l)) whole
+    (byte (digit-of (b / 16) (omega arith)) (digit-of (b % 16) (omega arith)) (spelled l (λ i. small (suc i))))
+
 pub answers-read-back : AnswersReadBack
 answers-read-back =
     record {
+      printed = spelled;
       frame = λ z f. begins z f .is;
       answer = λ A z a b K L c d frame line.
           sym (line-read (card-answers z a K c .is)) ∙ rw (frame, line) (line-read (card-answers z b L d .is));

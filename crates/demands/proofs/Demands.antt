@@ -1,6 +1,6 @@
 -- Every demand of specs/Demands.antt, with its proof.
 use Rattle.demands.specs.Demands.{Demands}
-use Rattle.demands.proofs.Examples.{ranges, crossed, table, damaged-table, endings, loss-stays, read-cases, reader-cases, end-cases, number-cases, whole-case, transmit-case, queue-case, held-case, nothing-stored-case, implied-xon-case, literal-mark-case, refusal-case, order-cases, merge-case, two-hosts, excepted}
+use Rattle.demands.proofs.Examples.{ranges, crossed, table, damaged-table, endings, loss-stays, read-cases, reader-cases, end-cases, number-cases, whole-case, transmit-case, queue-case, held-case, nothing-stored-case, implied-xon-case, literal-mark-case, line-case, refusal-case, order-cases, merge-case, two-hosts, excepted}
 use Rattle.demands.proofs.Reader.{reader, reader-call, clean-front}
 use Rattle.demands.proofs.ReadBack.{read-back}
 use Rattle.demands.proofs.Fifo.{first-in-first-out, loss-count}
@@ -38,6 +38,7 @@ demands =
       nothing-stored-case = nothing-stored-case;
       implied-xon-case = implied-xon-case;
       literal-mark-case = literal-mark-case;
+      line-case = line-case;
       refusal-case = refusal-case;
       order-cases = order-cases;
       merge-case = merge-case;

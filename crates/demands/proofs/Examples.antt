@@ -14,7 +14,7 @@ use Rattle.paper.specs.Card.{Card, at, picked, step}
 use Rattle.paper.specs.Numbers.{numbers}
 use Rattle.paper.specs.Frames.{callOf, digit, lineCall}
 use Rattle.paper.specs.declared.Answer.{Answer}
-use Rattle.demands.specs.Examples.{Ranges, Crossed, Table, DamagedTable, Endings, LossStays, ReadCases, ReaderCases, EndCases, NumberCases, WholeCase, TransmitCase, QueueCase, HeldCase, NothingStoredCase, ImpliedXonCase, LiteralMarkCase, RefusalCase, OrderCases, MergeCase}
+use Rattle.demands.specs.Examples.{Ranges, Crossed, Table, DamagedTable, Endings, LossStays, ReadCases, ReaderCases, EndCases, NumberCases, WholeCase, TransmitCase, QueueCase, HeldCase, NothingStoredCase, ImpliedXonCase, LiteralMarkCase, LineCase, RefusalCase, OrderCases, MergeCase}
 use Rattle.demands.specs.History.{Entry}
 use Rattle.demands.specs.Demands.{TwoHosts, Excepted}
 
@@ -93,6 +93,10 @@ implied-xon-case = refl
 pub literal-mark-case : LiteralMarkCase
 unfolding traced
 literal-mark-case = refl
+
+pub line-case : LineCase
+unfolding traced
+line-case = refl
 
 pub refusal-case : RefusalCase
 unfolding traced

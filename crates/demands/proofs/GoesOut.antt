@@ -13,16 +13,16 @@ use borrow.Author.Tests.{eqb-true}
 use Rattle.paper.specs.Choice.{if_then_else_}
 use Rattle.paper.specs.Given.{Given, given}
 use Rattle.paper.specs.Settings.{Size, badField}
-use Rattle.paper.specs.Arrival.{NL}
+use Rattle.paper.specs.Arrival.{CR, NL}
 use Rattle.paper.specs.Numbers.{numbers}
-use Rattle.paper.specs.Transmitter.{Transmitter, TransmitCall, transmitDepth, load, turn, setCts, askSpecial, withCts, loaded, sends, sendNext, held, turned, specialTaken, transmitStep}
+use Rattle.paper.specs.Transmitter.{Transmitter, TransmitCall, transmitDepth, load, turn, setCts, askSpecial, withBytes, withOwed, withCts, loaded, sends, sendNext, held, turned, specialTaken, transmitStep}
 use Rattle.paper.specs.Channel.{Channel, fresh, withTransmitter, ChannelCall, arrive, read, takeSettings, reset, state, transmit, noRoom, settingsTaken, channelStep}
 use Rattle.paper.specs.Card.{Card, Call, on, step, at, with}
 use Rattle.paper.specs.Run.{Named, end}
 use Rattle.paper.specs.declared.Settings.{Settings}
 use Rattle.paper.specs.declared.Flags.{Flags}
 use Rattle.paper.specs.declared.Answer.the-variants.{Silent, Sent, Took}
-use Rattle.demands.specs.History.{request, Entry, gathered, TransmitEntry, nothingMoved, transmitted, calledEntry, transmitHistory, queueHistory, NoReset}
+use Rattle.demands.specs.History.{request, Entry, gathered, TransmitEntry, goesAs, nothingMoved, transmitted, calledEntry, transmitHistory, queueHistory, NoReset}
 use Rattle.demands.specs.Demands.{after, AllKept, owing, waits, Gone, GoesOut}
 use Rattle.demands.proofs.Choices.{either}
 use Rattle.demands.proofs.Cases.{by-number}
@@ -226,6 +226,22 @@ is-held s f t (inr (field, low)) = rw (field, low) (go (f .running))
     go true = refl
     go false = refl
 
+-- the first of all that is due
+sends-first : (s : Settings) (t : Transmitter) (c : ℕ) (left : List ℕ) (b : ℕ) (rest more : List ℕ) → goesAs s c ++ more ≡ b ∷ rest
+    → sends s t c left .answer ≡ Sent b
+sends-first s t c left b rest more e = go (eqb (s .expand) 1 && eqb c NL) e
+  where
+    go : (u : Bool) → (if u then CR ∷ NL ∷ [] else c ∷ []) ++ more ≡ b ∷ rest
+        → (if u then given (Sent CR) (withOwed true (withBytes left t)) [] else given (Sent c) (withOwed false (withBytes left t)) []) .answer ≡ Sent b
+    go true e = ap Sent cc
+    go false e = ap Sent cc
+
+next-first : (s : Settings) (t : Transmitter) (owed : Bool) (queue : List ℕ) (b : ℕ) (rest : List ℕ)
+    → owing owed ++ gathered (goesAs s) queue ≡ b ∷ rest → sendNext s t owed queue .answer ≡ Sent b
+next-first s t true queue b rest e = ap Sent cc
+next-first s t false (c ∷ left) b rest e = sends-first s t c left b rest (gathered (goesAs s) left) e
+next-first s t false [] b rest e = absurd (let different : _≡_ {A = ℕ} 0 1 = cc in omega arith)
+
 module _ {A : Type 0} (z : Size) (a : A) (n : ℕ) (small : n < 4) where
   abbrev turns : ℕ → List (Named A Call)
   turns k = replicate k (record { name = a; call = on n (transmit turn) })
@@ -259,5 +275,10 @@ goes-out =
       special-first = λ A z a K n b small e. by-turn z a K n small (λ (g : Given (Card A)). g .answer ≡ Sent b) turn (rw e);
       held = λ A z a K n small e holds.
           by-turn z a K n small (λ (g : Given (Card A)). g .answer ≡ Silent) turn (rw (e, is-held (at K n .settings) (at K n .flags) (at K n .transmitter) holds));
+      goes = λ A z a K n b rest small e runs clear due.
+          let h = at K n in
+          by-turn z a K n small (λ (g : Given (Card A)). g .answer ≡ Sent b) turn
+          (rw (e, free (h .settings) (h .flags) (h .transmitter) runs clear)
+          (next-first (h .settings) (h .transmitter) (h .transmitter .owed) (h .transmitter .bytes) b rest due));
       all-goes = λ A z a K n k small sound runs clear enough. all-goes z a n small k K (sound .four) runs clear (lightest (at K n .transmitter) k enough);
     }

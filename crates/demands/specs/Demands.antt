@@ -16,7 +16,7 @@ use Rattle.paper.specs.Card.{Card, freshCard, Call, on, pick, placeOn, step, at
 use Rattle.paper.specs.Run.{Named, run, seen, end, nameless}
 use Rattle.paper.specs.Bounds.{Sound}
 use Rattle.paper.specs.Numbers.{numbers}
-use Rattle.paper.specs.Frames.{newline, callOf, answered, reply, lines}
+use Rattle.paper.specs.Frames.{newline, callOf, hexadecimal, answered, reply, lines}
 use Rattle.paper.specs.declared.Settings.{Settings}
 use Rattle.paper.specs.declared.Flags.{Flags}
 use Rattle.paper.specs.declared.Item.{Item}
@@ -29,11 +29,11 @@ use Rattle.paper.specs.declared.Fate.{Fate}
 use Rattle.paper.specs.declared.Fate.the-variants.{Stored, Nothing, Lost}
 use Rattle.paper.specs.declared.Answer.the-variants.{Fated, Handed, Took, Silent, Sent, Shown, Picked}
 use Rattle.demands.specs.Text.{text}
-use Rattle.demands.specs.Examples.{Ranges, Crossed, Table, DamagedTable, Endings, LossStays, ReadCases, ReaderCases, EndCases, NumberCases, WholeCase, TransmitCase, QueueCase, HeldCase, NothingStoredCase, ImpliedXonCase, LiteralMarkCase, RefusalCase, OrderCases, MergeCase}
+use Rattle.demands.specs.Examples.{Ranges, Crossed, Table, DamagedTable, Endings, LossStays, ReadCases, ReaderCases, EndCases, NumberCases, WholeCase, TransmitCase, QueueCase, HeldCase, NothingStoredCase, ImpliedXonCase, LiteralMarkCase, LineCase, RefusalCase, OrderCases, MergeCase}
 use Rattle.demands.specs.Marks.{characterOf, stream, Accepts}
-use Rattle.demands.specs.History.{isRefused, Entry, callsOn, port, events, Marking, sinceReset, queueHistory, NoReset, handed, bytesFound, stored, lost, gathered, TransmitEntry, transmitHistory, between, Before, befores, numbered, Each, NoWorse, NoPick}
+use Rattle.demands.specs.History.{isRefused, Entry, callsOn, port, events, Marking, sinceReset, queueHistory, NoReset, handed, bytesFound, stored, lost, gathered, TransmitEntry, goesAs, transmitHistory, between, Before, befores, numbered, Each, NoWorse, NoPick}
 use Rattle.demands.specs.Conditions.{conditions, FirstDue}
-use Rattle.demands.specs.Spelling.{Calls, frameOf}
+use Rattle.demands.specs.Spelling.{Spells, Calls, frameOf}
 
 -- DEMAND 1: "Every call answers for every input."
 
@@ -63,9 +63,10 @@ pub record TextLines : Type 0 where
   pub ended : (line rest : List ℕ) → Without newline line → lines (line ++ newline ∷ rest) ≡ line ∷ lines rest
   pub unended : (line : List ℕ) → Without newline line → line ≢ [] → lines line ≡ line ∷ []
 
--- an answer can be read back from its line: calls with the same first byte of their frames that are answered by the same bytes have the same answer,
--- whatever else they bring, on whatever cards
+-- an answer can be read back from its line: what is printed spells the answer's numbers, where they are bytes; and calls with the same first byte of their
+-- frames that are answered by the same numbers have the same answer, whatever else they bring, on whatever cards
 pub record AnswersReadBack : Type 1 where
+  pub printed : (l : List ℕ) → ((i : ℕ) → getD l i 0 < 256) → Spells (hexadecimal l) l
   pub frame : (z : Size) (f : List ℕ) (c : Call) → callOf z f ≡ some c → frameOf c ≡ getD f 0 0
   pub answer : (A : Type 0) (z : Size) (a b : A) (K L : Card A) (c d : Call)
       → let g = step z a K c in
@@ -131,8 +132,8 @@ Fates =
     (f : Fate) × (step z a K (on n (arrive kind b)) .answer ≡ Fated f)
     × FateOf (z .depth) (length (h .queue .slots)) (arrival (h .settings) (h .flags) kind b .ruling) f
 
--- with marking on, what is stored stands for a damaged 0 where a break came ("A break counts as a damaged zero"), for the damaged byte as it came, for
--- a good character where a good one came
+-- with marking on, what is stored stands for a damaged 0 where a break came (demand 2: "A break counts as a damaged zero"), for the damaged byte as it
+-- came, for a good character where a good one came
 pub data StandsFor : (kind byte : ℕ) → Character → Type 0 where
   good-one : (b c : ℕ) → StandsFor 0 b (good c)
   parity : (b : ℕ) → StandsFor 1 b (damaged b)
@@ -229,6 +230,12 @@ pub record GoesOut : Type 1 where
       → let h = at K n in
       h .transmitter .special ≡ none → (h .flags .running ≡ false) ⊎ ((h .settings .hold ≡ 1) × (h .transmitter .cts ≡ false))
       → step z a K (on n (transmit turn)) .answer ≡ Silent
+  -- "Else an owed NL; else the head of the queue": the first of all that is due goes
+  pub goes : (A : Type 0) (z : Size) (a : A) (K : Card A) (n b : ℕ) (rest : List ℕ) → n < 4
+      → let h = at K n in
+      h .transmitter .special ≡ none → h .flags .running ≡ true → (h .settings .hold ≡ 1 → h .transmitter .cts ≡ true)
+      → owing (h .transmitter .owed) ++ gathered (goesAs (h .settings)) (h .transmitter .bytes) ≡ b ∷ rest
+      → step z a K (on n (transmit turn)) .answer ≡ Sent b
   -- and with nothing that holds, two turns for each byte and one each for an owed NL and a special let everything go
   pub all-goes : (A : Type 0) (z : Size) (a : A) (K : Card A) (n turns : ℕ) → n < 4 → Sound z K
       → let h = at K n in
@@ -349,6 +356,7 @@ pub record Demands : Type 1 where
   pub nothing-stored-case : NothingStoredCase
   pub implied-xon-case : ImpliedXonCase
   pub literal-mark-case : LiteralMarkCase
+  pub line-case : LineCase
   pub refusal-case : RefusalCase
   pub order-cases : OrderCases
   pub merge-case : MergeCase

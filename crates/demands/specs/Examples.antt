@@ -576,9 +576,57 @@ LiteralMarkCase =
     ∷ "02000C" ⇒ "00070016131613161616"
     ∷ [])
 
+-- What holds a transmitter and when a channel is ready, worked out by hand. Flow characters obeyed and stored, a threshold of 3, CTS holds: with CTS 0
+-- a turn sends nothing, and with 1 the first byte; with 0 again nothing but the four specials. An XOFF is stored and stops the transmitter, an XON is
+-- stored and sets it running; with one and with two waiting no channel is picked, with three this one is. Settings set it running and leave the queues and
+-- CTS: the second byte goes. A reset takes settings and CTS back: an XOFF is a character, one is enough for a pick, and a turn is held again
+abbrev pub LineCase : Type 0
+LineCase =
+    Answered
+    ("07000101000001000003010011131A1B16" ⇒ "00"
+    ∷ "03004142" ⇒ "0002"
+    ∷ "0400" ⇒ "0000"
+    ∷ "050001" ⇒ "00"
+    ∷ "0400" ⇒ "000141"
+    ∷ "050000" ⇒ "00"
+    ∷ "0400" ⇒ "0000"
+    ∷ "060001" ⇒ "00"
+    ∷ "0400" ⇒ "000111"
+    ∷ "060002" ⇒ "00"
+    ∷ "0400" ⇒ "000113"
+    ∷ "060003" ⇒ "00"
+    ∷ "0400" ⇒ "00011A"
+    ∷ "060004" ⇒ "00"
+    ∷ "0400" ⇒ "00011B"
+    ∷ "050001" ⇒ "00"
+    ∷ "01000013" ⇒ "0000"
+    ∷ "0A00" ⇒ "000101010000"
+    ∷ "0400" ⇒ "0000"
+    ∷ "08" ⇒ "00FF"
+    ∷ "01000011" ⇒ "0000"
+    ∷ "0A00" ⇒ "000201000000"
+    ∷ "08" ⇒ "00FF"
+    ∷ "01000013" ⇒ "0000"
+    ∷ "0A00" ⇒ "000301010000"
+    ∷ "08" ⇒ "0000"
+    ∷ "07000101000001000003010011131A1B16" ⇒ "00"
+    ∷ "0A00" ⇒ "000301000000"
+    ∷ "0400" ⇒ "000142"
+    ∷ "0100004E" ⇒ "0000"
+    ∷ "020004" ⇒ "0004001311134E"
+    ∷ "0900" ⇒ "00"
+    ∷ "0A00" ⇒ "000000000000"
+    ∷ "01000013" ⇒ "0000"
+    ∷ "0A00" ⇒ "000100000000"
+    ∷ "08" ⇒ "0000"
+    ∷ "07000101000001000003010011131A1B16" ⇒ "00"
+    ∷ "030043" ⇒ "0001"
+    ∷ "0400" ⇒ "0000"
+    ∷ [])
+
 -- A line for each refusal that a frame can meet, worked out by hand: channel 4, kind 4, thirteen asked, settings of no, of fourteen and of sixteen bytes,
--- field 1 of 5, XON that is XOFF, special 0, a second special, CTS 2; and lines that make no call: a frame that is cut off, one that is too long, an odd
--- digit, no digit, a first byte that is not listed. A line of 34 bytes is a frame
+-- a 5 in field 1, XON that is XOFF, special 0, a second special, CTS 2; and lines that make no call: a frame that is cut off, one that is too long, an odd
+-- digit, no digit, a first byte that is not listed. A line of 34 bytes is a frame, and one of 35 is none
 abbrev pub RefusalCase : Type 0
 RefusalCase =
     Answered

@@ -1,4 +1,4 @@
--- The words of the demands, read off a run: what one port was asked and answered, and what that was to its receive queue.
+-- The words of the demands, read off a run: what one port was asked and answered, and what that was to its receive queue and to its transmitter.
 use mathlib.Core.Path.{_≡_}
 use mathlib.Core.Bool.{Bool, true, false, _&&_}
 use mathlib.Core.Logic.{_≢_}

@@ -4,11 +4,9 @@ use mathlib.Core.List.{List, [], _∷_}
 use mathlib.Core.Path.{_≡_, refl, ap, sym, _∙_}
 use Prim.Native.Nat.{ℕ}
 use lib.ListN.{getD}
-use Rattle.paper.specs.Card.{on}
 use Rattle.paper.specs.declared.Answer.{Answer}
 use Rattle.paper.specs.declared.Answer.the-variants.{Refused, Fated}
 use Rattle.paper.specs.declared.Refusal.{Refusal}
-use Rattle.demands.specs.Spelling.{frameOf}
 use Rattle.demands.proofs.AnswersReadBack.{answerIn, fate-read, AnswersTo, refusal, fate, reading, loading, silence, sent, plain, named, nobody, showing, channel-answers, named-not-none, Numbered, alone, followed, numbered}
 use Rattle.channel.specs.Held.{sizeOf, channelIn}
 use Rattle.channel.specs.Promise.{given}
@@ -39,7 +37,6 @@ told-read (showing waiting sending false losses) = refl
 
 pub told-read-back : ToldReadBack
 unfolding given
-told-read-back c d call same =
-    let frame = frameOf (on 0 call) in
-    sym (told-read (channel-answers (sizeOf c) tt (channelIn c) 0 call .is)) ∙ ap (toldIn frame) same
-    ∙ told-read (channel-answers (sizeOf d) tt (channelIn d) 0 call .is)
+told-read-back c d call other frame same =
+    sym (told-read (channel-answers (sizeOf c) tt (channelIn c) 0 call .is))
+    ∙ rw (frame, same) (told-read (channel-answers (sizeOf d) tt (channelIn d) 0 other .is))

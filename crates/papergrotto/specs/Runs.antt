@@ -8,6 +8,7 @@ use Rattle.paper.specs.Card.{Call, on}
 use Rattle.paper.specs.Run.{Named, nameless}
 use Rattle.paper.specs.declared.Answer.the-variants.{Done}
 use Rattle.demands.specs.History.{Entry}
+use Rattle.demands.specs.Spelling.{frameOf}
 use Rattle.demands.specs.Demands.{history, after}
 use Rattle.channel.specs.declared.Channel.{Channel}
 use Rattle.channel.specs.Held.{channelOf}
@@ -48,6 +49,8 @@ pub record RecordAsThePaper : Type 0 where
   -- a reset is no call of C's: a fresh record is stored, and there is nothing to tell
   pub resets : (c : Channel) → Promise c reset (told Done) (channelOf cardSize fresh) []
 
--- an answer can be read back from what C is told: records that are asked alike and tell alike give the same answer
+-- an answer can be read back from what C is told: calls of one sort, with the same first byte of their frames, that are told alike have the same answer
 abbrev pub ToldReadBack : Type 0
-ToldReadBack = (c d : Channel) (call : ChannelCall) → told (given c call .answer) ≡ told (given d call .answer) → given c call .answer ≡ given d call .answer
+ToldReadBack =
+    (c d : Channel) (call other : ChannelCall) → frameOf (on 0 call) ≡ frameOf (on 0 other)
+    → told (given c call .answer) ≡ told (given d other .answer) → given c call .answer ≡ given d other .answer
