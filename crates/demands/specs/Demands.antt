@@ -67,6 +67,7 @@ pub record TextLines : Type 0 where
 -- frames that are answered by the same numbers have the same answer, whatever else they bring, on whatever cards
 pub record AnswersReadBack : Type 1 where
   pub printed : (l : List ℕ) → ((i : ℕ) → getD l i 0 < 256) → Spells (hexadecimal l) l
+  -- the first byte is that of 01's table
   pub frame : (z : Size) (f : List ℕ) (c : Call) → callOf z f ≡ some c → frameOf c ≡ getD f 0 0
   pub answer : (A : Type 0) (z : Size) (a b : A) (K L : Card A) (c d : Call)
       → let g = step z a K c in
