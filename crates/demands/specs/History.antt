@@ -109,6 +109,11 @@ module _ {A : Type 0} where
   Marking [] = Unit {0}
   Marking (e ∷ es) = (report (e .answer) .fate ≢ none → marking (e .before .settings) ≡ true) × Marking es
 
+-- all that the parts of a list come to, in order
+abbrev pub gathered : {E X : Type 0} → (E → List X) → List E → List X
+gathered part [] = []
+gathered part (e ∷ es) = part e ++ gathered part es
+
 -- ITS RECEIVE QUEUE
 
 -- What one call on the port was to the queue
@@ -153,13 +158,11 @@ module _ {A : Type 0} where
 
   -- what was handed over
   abbrev pub handed : List (QueueEntry A) → List (Slot A)
-  handed [] = []
-  handed (e ∷ es) = e .handed ++ handed es
+  handed es = gathered (λ (e : QueueEntry A). e .handed) es
 
   -- the bytes that the host finds in its buffers
   abbrev pub bytesFound : List (QueueEntry A) → List ℕ
-  bytesFound [] = []
-  bytesFound (e ∷ es) = e .bytes ++ bytesFound es
+  bytesFound es = gathered (λ (e : QueueEntry A). e .bytes) es
 
 abbrev pub lossNow : Option Fate → (later : Bool) → Bool
 lossNow none later = later
@@ -198,11 +201,6 @@ module _ {A : Type 0} where
   lost (e ∷ es) = lostOne (e .fate) + lost es
 
 -- ITS TRANSMITTER
-
--- all that the parts of a list come to, in order
-abbrev pub gathered : {E X : Type 0} → (E → List X) → List E → List X
-gathered part [] = []
-gathered part (e ∷ es) = part e ++ gathered part es
 
 -- What one call on the port was to the transmitter
 pub record TransmitEntry : Type 0 where
