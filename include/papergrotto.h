@@ -1,12 +1,13 @@
 /* papergrotto.h: all that C may call. One serial channel in software, for the firmware of the box,
- * and the reader of marked streams.
+ * the reader of marked streams, and the list of the confirmations in one.
  *
  * A polling loop keeps a record for each channel and lends it to these functions, which alter it
  * where it stands. Each is proved to give, for every input, the answer and the next record that the
  * paper's steps give (crates/papergrotto; docs/PROMISES.md).
  *
  * To link: 'rt staticlib papergrotto' proves the library and writes target/staticlib/libpapergrotto.a, for
- * x86-64 and with the C library. examples/polling.c is a loop to begin with.
+ * x86-64 and with the C library. examples/polling.c is a loop to begin with, examples/confirmations.c
+ * a yield sheet.
  *
  * WHAT C MUST KEEP. A proof begins where its call begins, and takes for granted:
  *
@@ -16,8 +17,8 @@
  *   - A record is lent to one call at a time: an interrupt that uses the same record waits until
  *     the call has returned.
  *   - A pointer that comes with a length is not null, even where the length is 0, and that many
- *     bytes stand there. What is lent to one call does not overlap: neither two buffers, nor a
- *     buffer and the record.
+ *     bytes, or numbers of its type, stand there. What is lent to one call does not overlap: neither
+ *     two buffers, nor a buffer and the record.
  *
  * Nothing else. A bad kind, count, place, setting, special or CTS is refused by its number, and
  * then the record and all lent bytes are as they were.
@@ -85,7 +86,7 @@ struct papergrotto_told {
 };
 
 /* "Refusal numbers". A record is lent without a channel's number, so 1 does not occur; 11 is the
- * frame program's. */
+ * frame program's. 16 is of the list of confirmations. */
 enum papergrotto_refusal {
     PAPERGROTTO_SERVED = 0,
     PAPERGROTTO_BAD_KIND = 2,       /* kind above 3 */
@@ -98,7 +99,8 @@ enum papergrotto_refusal {
     PAPERGROTTO_SPECIAL_WAITS = 7,  /* a special already waits */
     PAPERGROTTO_BROKEN_STREAM = 8,  /* broken stream; values[0] is the place of the offending FF */
     PAPERGROTTO_SHORT_OUTPUT = 9,   /* either output shorter than the input */
-    PAPERGROTTO_BAD_CTS = 10        /* CTS neither 0 nor 1 */
+    PAPERGROTTO_BAD_CTS = 10,       /* CTS neither 0 nor 1 */
+    PAPERGROTTO_TOO_MANY_ENTRIES = 16   /* more entries than the lent list has places */
 };
 
 /* An arrival's kind. */
@@ -117,6 +119,14 @@ enum papergrotto_fate {
     PAPERGROTTO_DAMAGED_DISCARDED = 3,
     PAPERGROTTO_BREAK_IGNORED = 4,
     PAPERGROTTO_ENDING_DISCARDED = 5    /* a CR that gives nothing */
+};
+
+/* How a confirmation is judged. */
+enum papergrotto_judgement {
+    PAPERGROTTO_ACCEPTED = 0,           /* the first, or the next number */
+    PAPERGROTTO_ACCEPTED_WITH_GAP = 1,  /* any other number */
+    PAPERGROTTO_REPEATED = 2,           /* the number last accepted: adds no litres */
+    PAPERGROTTO_SET_ASIDE = 3           /* holds a damaged character: never counted */
 };
 
 /* A fresh record. To reset a channel, store it over the channel's record. */
@@ -173,6 +183,20 @@ struct papergrotto_told papergrotto_decode(const uint8_t *stream, size_t length,
 
 /* How many bytes of the stream stand before its first FF: all, where there is none. */
 size_t papergrotto_clean_front(const uint8_t *stream, size_t length);
+
+/* The confirmations of the filling line in the stream: STX, a number of four digits, a space, one to
+ * six digits of litres, ETX. Each entry goes to the same place of four lists, from their fronts on:
+ * the place of its STX among the characters of the stream, from 0; its number; its litres; and an
+ * enum papergrotto_judgement. Of one that is set aside number and litres are 0. The rest of all four
+ * stays. Lengths are counted in elements; the shortest of the four decides how many entries there is
+ * room for. values[0]: how many entries; values[1]: the sum of the accepted litres. Refusals 8 and
+ * 16, in this order. 16 also says that the characters or the litres are more than a third of what 64
+ * bits count; no memory holds such a stream. */
+struct papergrotto_told papergrotto_confirmations(const uint8_t *stream, size_t length,
+                                                  size_t *places, size_t places_length,
+                                                  uint16_t *numbers, size_t numbers_length,
+                                                  uint32_t *litres, size_t litres_length,
+                                                  uint8_t *judgements, size_t judgements_length);
 
 #ifdef __cplusplus
 }

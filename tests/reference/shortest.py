@@ -1,4 +1,8 @@
 """The shortest trace that shows a difference."""
+import contextlib
+import time
+
+PATIENCE = 60           # the seconds after which shortest_stream leaves out no more: what needs thousands of confirmations would take it hours
 
 
 def lines_of(data):
@@ -52,17 +56,35 @@ def shortest_trace(data, asked, answering):
 
 
 def shortest_case(cases, ours, theirs, asked, answering):
-    """One stream: its first difference, with bytes left out as long as the answers differ."""
+    """One stream behind the lengths of what is lent: its first difference, with bytes left out as long as the answers differ."""
     lines = zip(*(lines_of(text)[0] for text in (cases, ours, theirs)))
     case = next((case for case, one, other in lines if one != other), None)
     if case is None:
         yield 'there is another number of answers than of cases'
         return
-    first, second, digits = case.split(b' ')
+    *lengths, digits = case.split(b' ')
     stream = [digits[at:at + 2] for at in range(0, len(digits), 2)] if digits != b'-' else []
 
     def words(some):
-        return b' '.join((first, second, b''.join(some) or b'-')) + b'\n'
+        return b' '.join((*lengths, b''.join(some) or b'-')) + b'\n'
 
     stream = reduced(stream, lambda some: asked(words(some)) != answering(words(some)))
     yield f'{words(stream).decode().strip()}: the program {asked(words(stream)).decode().strip()}, the reference {answering(words(stream)).decode().strip()}'
+
+
+def shortest_stream(stream, asked, answering):
+    """A stream by itself, with bytes left out as long as what is written differs: the shortest one that was found in time."""
+    found, end = [stream], time.monotonic() + PATIENCE
+
+    def differs(some):
+        if time.monotonic() > end:
+            raise TimeoutError
+        if asked(some) == answering(some):
+            return False
+        found[:] = [some]
+        return True
+
+    with contextlib.suppress(TimeoutError):
+        reduced(stream, differs)
+    digits, ours, theirs = found[0].hex().upper() or '-', asked(found[0]), answering(found[0])
+    yield f'{shown(digits.encode())}: the program {shown(ours)}, the reference {shown(theirs)}'

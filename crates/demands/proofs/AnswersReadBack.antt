@@ -24,7 +24,7 @@ use Rattle.paper.specs.declared.Why.the-variants.{FlowSwallowed, DamagedDiscard
 use Rattle.paper.specs.declared.Fate.{Fate}
 use Rattle.paper.specs.declared.Fate.the-variants.{Stored, Nothing, Lost}
 use Rattle.paper.specs.declared.Refusal.{Refusal}
-use Rattle.paper.specs.declared.Refusal.the-variants.{BadChannel, BadKind, TooMany, NoRoom, BadField, BadSpecial, SpecialWaits, BrokenStream, ShortOutput, BadCts, BadLine}
+use Rattle.paper.specs.declared.Refusal.the-variants.{BadChannel, BadKind, TooMany, NoRoom, BadField, BadSpecial, SpecialWaits, BrokenStream, ShortOutput, BadCts, BadLine, TooManyEntries}
 use Rattle.paper.specs.declared.Answer.{Answer}
 use Rattle.paper.specs.declared.Answer.the-variants.{Refused, Fated, Handed, Took, Silent, Sent, Done, Shown, Picked, NoneReady}
 use Rattle.demands.specs.Spelling as spelling
@@ -48,7 +48,8 @@ refusalIn n v =
     if eqb n 8 then BrokenStream v else
     if eqb n 9 then ShortOutput else
     if eqb n 10 then BadCts else
-    BadLine
+    if eqb n 11 then BadLine else
+    TooManyEntries
 
 abbrev fateIn : ℕ → Fate
 fateIn n =
@@ -173,6 +174,7 @@ numbered (BrokenStream place) = followed 8 place refl refl
 numbered ShortOutput = alone 9 refl refl
 numbered BadCts = alone 10 refl refl
 numbered BadLine = alone 11 refl refl
+numbered TooManyEntries = alone 16 refl refl
 
 -- from a line
 abbrev lineIn : (frame : ℕ) → List ℕ → Answer

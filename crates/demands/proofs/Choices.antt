@@ -1,6 +1,6 @@
 -- What holds of both sides of a choice holds of the choice; each side may use what the tests said.
-use mathlib.Core.Path.{_≡_, refl}
-use mathlib.Core.Bool.{Bool, true, false, _&&_, _||_}
+use mathlib.Core.Path.{_≡_, refl, sym}
+use mathlib.Core.Bool.{Bool, true, false, true≢false, _&&_, _||_}
 use Rattle.paper.specs.Choice.{if_then_else_}
 
 module _ {ℓ} {A : Type 0} (P : A → Type ℓ) where
@@ -19,3 +19,8 @@ module _ {ℓ} {A : Type 0} (P : A → Type ℓ) where
   -- whatever the test says
   pub either : (t : Bool) {a b : A} → P a → P b → P (if t then a else b)
   either t p q = chosen t (λ _. p) (λ _. q)
+
+-- what two tests say, where both say yes
+pub both : (t u : Bool) → (t && u) ≡ true → (t ≡ true) × (u ≡ true)
+both true u e = (refl, e)
+both false u e = absurd (true≢false (sym e))

@@ -1,6 +1,8 @@
 -- Every demand of specs/Demands.antt, with its proof.
 use Rattle.demands.specs.Demands.{Demands}
 use Rattle.demands.proofs.Examples.{ranges, crossed, table, damaged-table, endings, loss-stays, read-cases, reader-cases, end-cases, number-cases, whole-case, transmit-case, queue-case, held-case, nothing-stored-case, implied-xon-case, literal-mark-case, line-case, refusal-case, order-cases, merge-case, two-hosts, excepted}
+use Rattle.demands.proofs.ConfirmationCases.{judged-cases, aside-cases, run-cases, form-cases, confirm-cases, the-scale, yield-cases}
+use Rattle.demands.proofs.Confirmations.{confirmations}
 use Rattle.demands.proofs.Reader.{reader, reader-call, clean-front}
 use Rattle.demands.proofs.ReadBack.{read-back}
 use Rattle.demands.proofs.Fifo.{first-in-first-out, loss-count}
@@ -42,6 +44,13 @@ demands =
       refusal-case = refusal-case;
       order-cases = order-cases;
       merge-case = merge-case;
+      judged-cases = judged-cases;
+      aside-cases = aside-cases;
+      run-cases = run-cases;
+      form-cases = form-cases;
+      confirm-cases = confirm-cases;
+      the-scale = the-scale;
+      yield-cases = yield-cases;
       reader = reader;
       reader-call = reader-call;
       clean-front = clean-front;
@@ -60,6 +69,7 @@ demands =
       neighbours = neighbours;
       merges = merges;
       excepted = excepted;
+      confirmations = confirmations;
       refusals = refusals;
       lines = lines;
       text-lines = text-lines;

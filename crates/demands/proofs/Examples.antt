@@ -19,7 +19,7 @@ use Rattle.demands.specs.History.{Entry}
 use Rattle.demands.specs.Demands.{TwoHosts, Excepted}
 
 -- what the examples compute with: to unfold one of these two names is to unfold all that its own line names. Settings and arrivals on a channel:
-called : Unit {0}
+unfoldable pub called : Unit {0}
 unfolding badField goodItem step1 step2 stripped woken step4 step5 flowRuling step6 ending step7 good arrival channelStep
 called = tt
 

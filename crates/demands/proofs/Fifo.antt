@@ -13,8 +13,8 @@ use Rattle.paper.specs.Choice.{if_then_else_}
 use Rattle.paper.specs.Queue.{Slot, Queue, flagNewest, placeItem, place}
 use Rattle.paper.specs.declared.Ruling.{Ruling}
 use Rattle.paper.specs.declared.Ruling.the-variants.{Store, StoreNothing}
-use Rattle.demands.specs.History.{QueueEntry, queueHistory, NoReset, handed, lossNow, lostOne, lossNext, storedAs, stored, lost}
-use Rattle.demands.specs.Demands.{FirstInFirstOut, LossCount, after}
+use Rattle.demands.specs.History.{QueueEntry, queueHistory, NoReset, handed, lossNow, lostOne, lossNext, storedAs, stored, lost, after}
+use Rattle.demands.specs.Demands.{FirstInFirstOut, LossCount}
 use Rattle.demands.proofs.Placing.{Fits, placed-fits, removed-fits}
 use Rattle.demands.proofs.QueueRuns.{emptyQueue, ReadRule, placed, taken, renewed, left, QueueRun, ended, met}
 use Rattle.demands.proofs.Port.{channel-run, since-reset, queue-run}

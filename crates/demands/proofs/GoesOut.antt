@@ -22,8 +22,8 @@ use Rattle.paper.specs.Run.{Named, end}
 use Rattle.paper.specs.declared.Settings.{Settings}
 use Rattle.paper.specs.declared.Flags.{Flags}
 use Rattle.paper.specs.declared.Answer.the-variants.{Silent, Sent, Took}
-use Rattle.demands.specs.History.{request, Entry, gathered, TransmitEntry, goesAs, nothingMoved, transmitted, calledEntry, transmitHistory, queueHistory, NoReset}
-use Rattle.demands.specs.Demands.{after, AllKept, owing, waits, Gone, GoesOut}
+use Rattle.demands.specs.History.{request, Entry, gathered, TransmitEntry, goesAs, nothingMoved, transmitted, calledEntry, transmitHistory, queueHistory, NoReset, after}
+use Rattle.demands.specs.Demands.{AllKept, owing, waits, Gone, GoesOut}
 use Rattle.demands.proofs.Choices.{either}
 use Rattle.demands.proofs.Cases.{by-number}
 use Rattle.demands.proofs.Port.{ChannelRun, finished, call, channel-run, since-reset}

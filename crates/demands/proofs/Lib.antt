@@ -21,4 +21,10 @@ pub mod ReadBack
 pub mod TwoQueues
 pub mod ReadingMore
 pub mod Names
+pub mod ConfirmationRuns
+pub mod ConfirmationForms
+pub mod ConfirmationEntries
+pub mod OutsideRuns
+pub mod ConfirmationCases
+pub mod Confirmations
 pub mod Demands

@@ -11,7 +11,7 @@ use borrow.Author.Tests.{leb-true, ltb-false, le-ltb, le-leb, lt-leb}
 use Rattle.paper.specs.Settings.{Size}
 use Rattle.paper.specs.Card.{Card, Call}
 use Rattle.paper.specs.Frames.{between, callOf, digit, joined, bytesOf, frameCall, lineCall, replied}
-use Rattle.demands.specs.Text.{text}
+use Rattle.paper.specs.Text.{text}
 use Rattle.demands.specs.Spelling.{Digit, figure, capital, small, Spells, empty, byte, Calls}
 use Rattle.demands.specs.Demands.{Lines}
 use Rattle.demands.proofs.Choices.{chosen, chosen-and}

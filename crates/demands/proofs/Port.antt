@@ -16,8 +16,7 @@ use Rattle.paper.specs.Transmitter.{loaded}
 use Rattle.paper.specs.Channel.{Channel, fresh, ChannelCall, written, channelStep}
 use Rattle.paper.specs.Card.{Card, freshCard, Call, on, pick, at, with, step}
 use Rattle.paper.specs.Run.{Named, run, end}
-use Rattle.demands.specs.History.{Entry, entryOf, port, behindReset, sinceReset, queueEntry, queueHistory, NoReset}
-use Rattle.demands.specs.Demands.{history, after}
+use Rattle.demands.specs.History.{Entry, entryOf, port, behindReset, sinceReset, queueEntry, queueHistory, NoReset, history, after}
 use Rattle.demands.proofs.Cases.{declined, loading, other, Deed, refusal, arrival, reading, change, renewal, showing, sending, deed, by-number, by-pick}
 use Rattle.demands.proofs.Isolation.{step-length, isolation}
 use Rattle.demands.proofs.QueueRuns.{emptyQueue, QueueStep, placed, taken, renewed, left, QueueRun, ended, met, Full}

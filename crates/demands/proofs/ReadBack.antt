@@ -16,8 +16,8 @@ use Rattle.paper.specs.declared.Settings.{Settings}
 use Rattle.paper.specs.declared.Item.{Item}
 use Rattle.paper.specs.declared.Item.the-variants.{Plain}
 use Rattle.paper.specs.declared.Ruling.{Ruling}
-use Rattle.demands.specs.History.{request, Entry, Marking, QueueEntry, queueHistory, handed, bytesFound}
-use Rattle.demands.specs.Demands.{history, ReadBack}
+use Rattle.demands.specs.History.{request, Entry, Marking, QueueEntry, queueHistory, handed, bytesFound, history}
+use Rattle.demands.specs.Demands.{ReadBack}
 use Rattle.demands.proofs.Choices.{chosen}
 use Rattle.demands.proofs.Arrivals.{Fit, stores, leaves, arrival-fit}
 use Rattle.demands.proofs.Reader.{Markable, AllMarkable, nil, cons, items-back}

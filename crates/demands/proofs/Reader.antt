@@ -11,8 +11,8 @@ use borrow.Author.Tests.{eqb-true, eqb-false, ltb-true, ltb-false}
 use Rattle.paper.specs.Stream.{images, Character, good, damaged, Readout, Open, nothing, mark, markZero, first, readOn, readout}
 use Rattle.paper.specs.Stream.{decodedAs, decode, cleanFront}
 use Rattle.paper.specs.declared.Item.{Item}
-use Rattle.demands.specs.Marks.{characterOf, markedItem, stream, Accepts}
-use Rattle.demands.specs.Demands.{Reader, FirstBroken, ReaderGives, short, broken, served, ReaderCall, CleanFront}
+use Rattle.demands.specs.Marks.{characterOf, markedItem, stream, Accepts, FirstBroken}
+use Rattle.demands.specs.Demands.{Reader, ReaderGives, short, broken, served, ReaderCall, CleanFront}
 use Rattle.demands.proofs.Choices.{chosen, chosen-or}
 
 -- characters in front of a readout
@@ -123,7 +123,7 @@ rest-marked markZero (b ∷ s) = rest-marked nothing s
 no-further : (s : List ℕ) (cs : List Character) (t : List ℕ) → s ≡ stream cs ++ t → length (stream cs) + length (readout s .rest) ≤ length s
 no-further s cs t e = rw (e, read-past cs t, length-append) (omega (arith, simp length-append at (ap length (whole nothing t))))
 
-first-broken : (s : List ℕ) (cs : List Character) (b : ℕ) (rest : List ℕ)
+pub first-broken : (s : List ℕ) (cs : List Character) (b : ℕ) (rest : List ℕ)
     → readout s ≡ record { characters = cs; rest = b ∷ rest } → FirstBroken s (length s - length (b ∷ rest))
 first-broken s cs b rest h =
     let place : ℕ = length s - length (b ∷ rest) in

@@ -18,8 +18,8 @@ use Rattle.paper.specs.Given.{Given}
 use Rattle.paper.specs.declared.Settings.{Settings}
 use Rattle.paper.specs.declared.Flags.{Flags}
 use Rattle.paper.specs.declared.Outcome.{Outcome}
-use Rattle.demands.specs.History.{Report, arrivals, Event, arrived, changed, Entry, entryOf, port, events, queueHistory, NoReset, Before, numbered, Each, nil, cons}
-use Rattle.demands.specs.Demands.{history, ReadingMore}
+use Rattle.demands.specs.History.{Report, arrivals, Event, arrived, changed, Entry, entryOf, port, events, queueHistory, NoReset, Before, numbered, Each, nil, cons, history}
+use Rattle.demands.specs.Demands.{ReadingMore}
 use Rattle.demands.proofs.Choices.{chosen}
 use Rattle.demands.proofs.Cases.{declined, loading, other, refusal, arrival, reading, change, renewal, showing, sending}
 use Rattle.demands.proofs.Port.{ChannelRun, finished, call, channel-run, port-queue}

@@ -28,10 +28,12 @@ use Rattle.paper.specs.declared.Reading.the-variants.{Items, Unread}
 use Rattle.paper.specs.declared.Fate.{Fate}
 use Rattle.paper.specs.declared.Fate.the-variants.{Stored, Nothing, Lost}
 use Rattle.paper.specs.declared.Answer.the-variants.{Fated, Handed, Took, Silent, Sent, Shown, Picked}
-use Rattle.demands.specs.Text.{text}
+use Rattle.paper.specs.Text.{text}
 use Rattle.demands.specs.Examples.{Ranges, Crossed, Table, DamagedTable, Endings, LossStays, ReadCases, ReaderCases, EndCases, NumberCases, WholeCase, TransmitCase, QueueCase, HeldCase, NothingStoredCase, ImpliedXonCase, LiteralMarkCase, LineCase, RefusalCase, OrderCases, MergeCase}
-use Rattle.demands.specs.Marks.{characterOf, stream, Accepts}
-use Rattle.demands.specs.History.{isRefused, Entry, callsOn, port, events, Marking, sinceReset, queueHistory, NoReset, handed, bytesFound, stored, lost, gathered, TransmitEntry, goesAs, transmitHistory, between, Before, befores, numbered, Each, NoWorse, NoPick}
+use Rattle.demands.specs.ConfirmationCases.{JudgedCases, AsideCases, RunCases, FormCases, ConfirmCases, TheScale, YieldCases}
+use Rattle.demands.specs.Confirmations.{Confirmations}
+use Rattle.demands.specs.Marks.{characterOf, stream, Accepts, FirstBroken}
+use Rattle.demands.specs.History.{isRefused, Entry, callsOn, port, history, after, events, Marking, sinceReset, queueHistory, NoReset, handed, bytesFound, stored, lost, gathered, TransmitEntry, goesAs, transmitHistory, between, Before, befores, numbered, Each, NoWorse, NoPick}
 use Rattle.demands.specs.Conditions.{conditions, FirstDue}
 use Rattle.demands.specs.Spelling.{Spells, Calls, frameOf}
 
@@ -82,13 +84,6 @@ pub record Bounds : Type 1 where
   pub reached : (A : Type 0) (z : Size) (cs : List (Named A Call)) → 1 ≤ z .most → Sound z (end z freshCard cs)
 
 -- DEMAND 2: THE READER
-
--- "the first such FF is named": it is an FF, what stands before it reads back, and no reading passes it
-pub record FirstBroken (s : List ℕ) (place : ℕ) : Type 0 where
-  pub mark : getD s place 0 ≡ 0xFF
-  pub inside : place < length s
-  pub before : (cs : List Character) × Accepts (take place s) cs
-  pub no-further : (cs : List Character) (t : List ℕ) → s ≡ stream cs ++ t → length (stream cs) ≤ place
 
 -- "reading the stream back gives the characters", and "every stream the reader accepts is the image of exactly one such list"; a stream that is not
 -- accepted has one broken FF to name
@@ -147,13 +142,6 @@ Marked =
     → StandsFor kind b (characterOf i)
 
 -- DEMAND 2: WHOLE CALL SEQUENCES
-
--- what the calls on port n were, and what they answered; and the channel after them
-abbrev pub history : {A : Type 0} → Size → ℕ → List (Named A Call) → List (Entry A)
-history z n cs = port n (run z freshCard cs)
-
-abbrev pub after : {A : Type 0} → Size → ℕ → List (Named A Call) → Channel A
-after z n cs = at (end z freshCard cs) n
 
 -- "Where marking was on at every arrival, reading the stream back gives the characters handed over, good or damaged as stored, in order"
 abbrev pub ReadBack : Type 0
@@ -361,6 +349,13 @@ pub record Demands : Type 1 where
   pub refusal-case : RefusalCase
   pub order-cases : OrderCases
   pub merge-case : MergeCase
+  pub judged-cases : JudgedCases
+  pub aside-cases : AsideCases
+  pub run-cases : RunCases
+  pub form-cases : FormCases
+  pub confirm-cases : ConfirmCases
+  pub the-scale : TheScale
+  pub yield-cases : YieldCases
   pub refusals : Refusals
   pub lines : Lines
   pub text-lines : TextLines
@@ -384,3 +379,4 @@ pub record Demands : Type 1 where
   pub neighbours : Neighbours
   pub merges : Merges
   pub excepted : Excepted
+  pub confirmations : Confirmations

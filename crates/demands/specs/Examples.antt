@@ -18,7 +18,7 @@ use Rattle.paper.specs.declared.Refusal.the-variants.{BadChannel, BadKind, TooM
 use Rattle.paper.specs.declared.Reading.the-variants.{Items, Unread}
 use Rattle.paper.specs.declared.Answer.{Answer}
 use Rattle.paper.specs.declared.Answer.the-variants.{Refused, Handed, Shown}
-use Rattle.demands.specs.Text.{text}
+use Rattle.paper.specs.Text.{text}
 use Rattle.demands.specs.History.{callsOn}
 
 -- SETTINGS

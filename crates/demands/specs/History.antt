@@ -14,8 +14,9 @@ use Rattle.paper.specs.Queue.{Slot, oldest, namesOf}
 use Rattle.paper.specs.Numbers.{numbers}
 use Rattle.paper.specs.Transmitter.{Transmitter, TransmitCall, load, turn, setCts, askSpecial, specialCharacter}
 use Rattle.paper.specs.Channel.{Channel, ChannelCall, arrive, read, takeSettings, reset, state, transmit, placeOf}
-use Rattle.paper.specs.Card.{Call, on, pick, at}
-use Rattle.paper.specs.Run.{Named, Moment}
+use Rattle.paper.specs.Settings.{Size}
+use Rattle.paper.specs.Card.{freshCard, Call, on, pick, at}
+use Rattle.paper.specs.Run.{Named, Moment, run, end}
 use Rattle.paper.specs.declared.Settings.{Settings}
 use Rattle.paper.specs.declared.Ruling.{Ruling}
 use Rattle.paper.specs.declared.Ruling.the-variants.{Store, StoreNothing}
@@ -108,6 +109,13 @@ module _ {A : Type 0} where
   abbrev pub Marking : List (Entry A) → Type 0
   Marking [] = Unit {0}
   Marking (e ∷ es) = (report (e .answer) .fate ≢ none → marking (e .before .settings) ≡ true) × Marking es
+
+-- what the calls on port n were, and what they answered; and the channel after them
+abbrev pub history : {A : Type 0} → Size → ℕ → List (Named A Call) → List (Entry A)
+history z n cs = port n (run z freshCard cs)
+
+abbrev pub after : {A : Type 0} → Size → ℕ → List (Named A Call) → Channel A
+after z n cs = at (end z freshCard cs) n
 
 -- all that the parts of a list come to, in order
 abbrev pub gathered : {E X : Type 0} → (E → List X) → List E → List X

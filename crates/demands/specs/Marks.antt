@@ -1,8 +1,9 @@
 -- The words of the reader's demands: characters, and the streams that stand for them.
 use mathlib.Core.Path.{_≡_}
-use mathlib.Core.List.{List, [], map}
-use Prim.Native.Nat.{ℕ}
+use mathlib.Core.List.{List, [], _++_, map}
+use Prim.Native.Nat.{ℕ, _≤_, _<_}
 use lib.Dec.{eqb}
+use lib.ListN.{length, getD, take}
 use Rattle.paper.specs.Choice.{if_then_else_}
 use Rattle.paper.specs.Stream.{Character, good, damaged, images, readout}
 use Rattle.paper.specs.declared.Item.{Item}
@@ -26,3 +27,10 @@ stream cs = images (map markedItem cs)
 -- the reader accepts s, and gives the characters cs
 abbrev pub Accepts : List ℕ → List Character → Type 0
 Accepts s cs = readout s ≡ record { characters = cs; rest = [] }
+
+-- "the first such FF is named": it is an FF, what stands before it reads back, and no reading passes it
+pub record FirstBroken (s : List ℕ) (place : ℕ) : Type 0 where
+  pub mark : getD s place 0 ≡ 0xFF
+  pub inside : place < length s
+  pub before : (cs : List Character) × Accepts (take place s) cs
+  pub no-further : (cs : List Character) (t : List ℕ) → s ≡ stream cs ++ t → length (stream cs) ≤ place

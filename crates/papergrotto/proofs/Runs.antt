@@ -10,8 +10,7 @@ use Rattle.paper.specs.Channel as model
 use Rattle.paper.specs.Channel.{ChannelCall, fresh, channelStep}
 use Rattle.paper.specs.Card.{Card, freshCard, step, on}
 use Rattle.paper.specs.Run.{run}
-use Rattle.demands.specs.History.{Entry, port}
-use Rattle.demands.specs.Demands.{history, after}
+use Rattle.demands.specs.History.{Entry, port, history, after}
 use Rattle.demands.proofs.Port as ports
 use Rattle.channel.specs.declared.Channel.{Channel}
 use Rattle.channel.specs.Held.{sizeOf, channelOf, channelIn, Sound}

@@ -7,9 +7,8 @@ use Rattle.paper.specs.Channel.{ChannelCall, reset, fresh}
 use Rattle.paper.specs.Card.{Call, on}
 use Rattle.paper.specs.Run.{Named, nameless}
 use Rattle.paper.specs.declared.Answer.the-variants.{Done}
-use Rattle.demands.specs.History.{Entry}
+use Rattle.demands.specs.History.{Entry, history, after}
 use Rattle.demands.specs.Spelling.{frameOf}
-use Rattle.demands.specs.Demands.{history, after}
 use Rattle.channel.specs.declared.Channel.{Channel}
 use Rattle.channel.specs.Held.{channelOf}
 use Rattle.channel.specs.Promise.{given}

@@ -1,5 +1,5 @@
-// For C: the calls of a polling loop, which "lends one channel's record and finds it altered where it stands", and the reader of a marked stream.
-// include/papergrotto.h declares them.
+// For C: the calls of a polling loop, which "lends one channel's record and finds it altered where it stands", the reader of a marked stream, and the
+// list of its confirmations. include/papergrotto.h declares them.
 ghost use mathlib.Core.List.{[]};
 ghost use mathlib.Core.Path.{_≡_};
 ghost use lib.ListN.{length};
@@ -7,9 +7,10 @@ ghost use Rattle.paper.specs.Settings.{cardSize};
 ghost use Rattle.paper.specs.Channel as calls;
 ghost use Rattle.paper.specs.Transmitter as lines;
 ghost use Rattle.paper.specs.Stream as paper;
+ghost use Rattle.paper.specs.Confirmations as confirmations;
 ghost use Rattle.channel.specs.Held.{Sound, channelOf};
 ghost use Rattle.channel.specs.Promise.{atThreshold};
-ghost use Rattle.telling.specs.Told.{told, readingTold};
+ghost use Rattle.telling.specs.Told.{told, readingTold, listingTold};
 ghost use Rattle.papergrotto.specs.Promise.{Promise};
 use channel::Answered;
 use channel::Channel;
@@ -165,4 +166,25 @@ pub extern "C" fn papergrotto_clean_front(stream: &[u8]) -> usize
 {
     let front = stream::clean_front(stream);
     front.len()
+}
+
+// 02 n, "Confirmations": the entries of a stream, in four lent columns; how many, and the sum of their litres.
+#[no_mangle]
+pub extern "C" fn papergrotto_confirmations(
+    stream: &[u8],
+    places: &mut [usize],
+    numbers: &mut [u16],
+    litres: &mut [u32],
+    judgements: &mut [u8],
+) -> Told
+    ensures { λ r. ⌜ r ≡ listingTold (confirmations.confirm (now (stream .entry))
+        (record { places = now (places .entry); numbers = now (numbers .entry); litres = now (litres .entry);
+            judgements = now (judgements .entry) }) .answer) ⌝ }
+    ensures { λ _. ⌜ record { places = now (places .exit); numbers = now (numbers .exit); litres = now (litres .exit);
+            judgements = now (judgements .exit) }
+        ≡ confirmations.confirm (now (stream .entry))
+        (record { places = now (places .entry); numbers = now (numbers .entry); litres = now (litres .entry);
+            judgements = now (judgements .entry) }) .list ⌝ }
+{
+    telling::tell_listing(confirming::list(stream, places, numbers, litres, judgements))
 }

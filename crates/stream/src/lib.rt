@@ -17,7 +17,7 @@ const GOOD: u8 = 0;
 const DAMAGED: u8 = 1;
 
 // What a look through a stream finds: nothing broken, or the place of the first broken FF.
-enum Scan {
+pub enum Scan {
     Whole,
     Broken(usize),
 }
@@ -30,7 +30,7 @@ struct Found {
 }
 
 // "FF before any other byte, or cut off at the end, is broken; the first such FF is named."
-fn first_broken(stream: &[u8]) -> Scan
+pub fn first_broken(stream: &[u8]) -> Scan
     ensures { λ r. ⌜ r ≡ scanned (now (stream .entry)) (paper.readout (now (stream .entry)) .rest) ⌝ }
 {
     let mut i = 0;

@@ -3,10 +3,11 @@ use mathlib.Core.List.{List, [], _∷_, _++_}
 use Prim.Native.Nat.{ℕ}
 use lib.ListN.{take}
 use Rattle.paper.specs.Choice.{if_then_else_}
-use Rattle.paper.specs.Numbers.{refusalNumbers, fateNumber, readingNumbers}
+use Rattle.paper.specs.Numbers.{refusalNumbers, fateNumber, readingNumbers, listingNumbers}
 use Rattle.paper.specs.declared.Answer.{Answer}
 use Rattle.paper.specs.declared.Answer.the-variants as answers
 use Rattle.paper.specs.declared.Reading.{Reading}
+use Rattle.paper.specs.declared.Listing.{Listing}
 use Rattle.telling.specs.declared.Told.{Told}
 
 -- "Answers begin with 00 or the refusal number (5 is followed by its field), then: ...": the frame program's numbers, but of a read how many bytes
@@ -33,3 +34,6 @@ told a = laid (words a)
 
 unfoldable pub readingTold : Reading → Told
 readingTold r = laid (readingNumbers r)
+
+unfoldable pub listingTold : Listing → Told
+listingTold l = laid (listingNumbers l)

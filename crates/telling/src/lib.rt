@@ -2,8 +2,9 @@
 ghost use mathlib.Core.List.{[], _∷_};
 ghost use mathlib.Core.Path.{_≡_};
 ghost use Rattle.paper.specs.Numbers.{refusalNumbers};
-ghost use Rattle.telling.specs.Told.{told, readingTold, laid};
+ghost use Rattle.telling.specs.Told.{told, readingTold, listingTold, laid};
 use paper::Answer;
+use paper::Listing;
 use paper::Reading;
 use paper::Refusal;
 
@@ -75,5 +76,15 @@ pub fn tell_reading(reading: Reading) -> Told
     match reading {
         Reading::Items(count) => served(count, 0, 0, 0),
         Reading::Unread(refusal) => tell_refusal(refusal),
+    }
+}
+
+// How many entries a list has and the sum of their litres, or the refusal.
+pub fn tell_listing(listing: Listing) -> Told
+    ensures { λ r. ⌜ r ≡ listingTold listing ⌝ }
+{
+    match listing {
+        Listing::Listed(count, sum) => served(count, sum, 0, 0),
+        Listing::Unlisted(refusal) => tell_refusal(refusal),
     }
 }

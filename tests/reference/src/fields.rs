@@ -1,5 +1,5 @@
-//! What the stream form and the reads form share: bytes as a field of a line,
-//! and the lent buffers.
+//! What the stream form, the reads form and the confirmations form share: bytes
+//! and numbers as fields of a line, and the lent buffers.
 
 use crate::frames::write_hexadecimal;
 
@@ -22,6 +22,15 @@ pub fn bytes_of_field(field: &str) -> Option<Vec<u8>> {
         .step_by(2)
         .map(|place| u8::from_str_radix(&field[place..place + 2], 16).ok())
         .collect()
+}
+
+/// A number in decimal digits; none for another field.
+pub fn decimal(field: &str) -> Option<usize> {
+    let good_digits = field.bytes().all(|character| character.is_ascii_digit());
+    if !good_digits {
+        return None;
+    }
+    field.parse().ok()
 }
 
 /// The field that `bytes_of_field` reads.

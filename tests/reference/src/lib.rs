@@ -1,13 +1,15 @@
 //! An independent reference implementation of the paper
-//! "Exact rules for the build: four serial channels", and of four of the
+//! "Exact rules for the build: four serial channels", and of five of the
 //! "Further requests from customers": a, "Thirteenth character", b, "Say why
-//! nothing was stored", e, "Constants page full", and l, "Order between ports".
-//! The last two change no answer; l stands in the tests and in a generator.
+//! nothing was stored", e, "Constants page full", l, "Order between ports", and
+//! n, "Confirmations". e and l change no answer; l stands in the tests and in a
+//! generator, and n stands by itself over the reader of a marked stream.
 //! Comments in quotation marks quote the paper; the words of a request follow
 //! its name.
 
 pub mod account;
 pub mod card;
+pub mod confirmations;
 pub mod fields;
 pub mod frames;
 pub mod generate;

@@ -1,11 +1,12 @@
 //! The command line of the reference: the frame program, its account, the
-//! stream form, the reads form, and the generators of random input for each.
+//! stream form, the reads form, the confirmations form and the listing, and the
+//! generators of random input for each.
 
 use reference::fields::{bytes_of_field, write_field, FILLING};
 use reference::generate::merges::{self, Merge};
 use reference::generate::{self, streams, Profile};
 use reference::stream::{clean_front, read_stream, StreamRefusal};
-use reference::{account, frames, reads};
+use reference::{account, confirmations, frames, reads};
 use std::io::{self, Read, Write};
 use std::process::ExitCode;
 
@@ -13,10 +14,14 @@ const USAGE: &str = "usage: reference frames
        reference account
        reference stream
        reference reads
+       reference confirmations
+       reference listing
        reference generate PROFILE SEED LINES
        reference streams SEED LINES
        reference generate-reads SEED LINES
        reference generate-merge SEED LINES WHICH
+       reference generate-confirmations SEED LINES
+       reference generate-listing SEED BYTES
 profiles: mixed full marks flow turns settings refused lines picks
 WHICH: 1 or 2";
 
@@ -45,31 +50,35 @@ fn run(arguments: &[String], output: &mut Vec<u8>) -> Result<(), String> {
         ["account"] => output.extend(account::program(&standard_input()?).bytes()),
         ["stream"] => output.extend(answer_cases(&standard_input()?)?),
         ["reads"] => reads::program(&standard_input()?, output)?,
-        ["generate", profile, seed, lines] => {
-            let profile = Profile::named(profile).ok_or(USAGE)?;
-            let seed = number(seed)?;
-            let lines = number(lines)?;
-            output.extend(generate::trace(profile, seed, lines as usize));
-        }
-        ["streams", seed, lines] => {
-            let seed = number(seed)?;
-            let lines = number(lines)?;
-            output.extend(streams::cases(seed, lines as usize));
-        }
-        ["generate-reads", seed, lines] => {
-            let seed = number(seed)?;
-            let lines = number(lines)?;
-            output.extend(generate::reads::trace(seed, lines as usize));
-        }
-        ["generate-merge", seed, lines, which] => {
-            let which = Merge::named(which).ok_or(USAGE)?;
-            let seed = number(seed)?;
-            let lines = number(lines)?;
-            output.extend(merges::trace(seed, lines as usize, which));
-        }
-        _ => return Err(USAGE.to_string()),
+        ["confirmations"] => confirmations::program(&standard_input()?, output)?,
+        ["listing"] => output.extend(confirmations::listing(&standard_input()?).bytes()),
+        _ => output.extend(generated(&words)?),
     }
     Ok(())
+}
+
+/// What the generator of this name gives; every other word is refused.
+fn generated(words: &[&str]) -> Result<Vec<u8>, String> {
+    match *words {
+        ["generate", profile, seed, lines] => {
+            let profile = Profile::named(profile).ok_or(USAGE)?;
+            Ok(generate::trace(profile, number(seed)?, size(lines)?))
+        }
+        ["streams", seed, lines] => Ok(streams::cases(number(seed)?, size(lines)?)),
+        ["generate-reads", seed, lines] => Ok(generate::reads::trace(number(seed)?, size(lines)?)),
+        ["generate-merge", seed, lines, which] => {
+            let which = Merge::named(which).ok_or(USAGE)?;
+            Ok(merges::trace(number(seed)?, size(lines)?, which))
+        }
+        ["generate-confirmations", seed, lines] => {
+            Ok(generate::confirmations::cases(number(seed)?, size(lines)?))
+        }
+        ["generate-listing", seed, bytes] => Ok(generate::confirmations::long_stream(
+            number(seed)?,
+            size(bytes)?,
+        )),
+        _ => Err(USAGE.to_string()),
+    }
 }
 
 fn standard_input() -> Result<Vec<u8>, String> {
@@ -84,6 +93,11 @@ fn standard_input() -> Result<Vec<u8>, String> {
 fn number(word: &str) -> Result<u64, String> {
     word.parse()
         .map_err(|_| format!("{word:?} is no decimal number"))
+}
+
+/// How many lines or bytes.
+fn size(word: &str) -> Result<usize, String> {
+    Ok(number(word)? as usize)
 }
 
 /// Each line is a case of the stream reader; one line answers each.

@@ -2,7 +2,7 @@
 //! program only ever lends 36 bytes at place 0.
 
 use crate::card::{Card, Refusal};
-use crate::fields::{bytes_of_field, write_field, FILLING};
+use crate::fields::{bytes_of_field, decimal, write_field, FILLING};
 use crate::frames::lines;
 
 /// The one channel of this form. "A call on one channel alters no other
@@ -118,12 +118,4 @@ fn two_digits(field: &str) -> Option<u8> {
         return None;
     }
     u8::from_str_radix(field, 16).ok()
-}
-
-fn decimal(field: &str) -> Option<usize> {
-    let good_digits = field.bytes().all(|character| character.is_ascii_digit());
-    if !good_digits {
-        return None;
-    }
-    field.parse().ok()
 }

@@ -44,7 +44,7 @@ fn first_item(stream: &[u8]) -> Option<(StreamItem, usize)> {
 /// All items of the stream, or the place of the first offending FF.
 ///
 /// "the first such FF is named"; "Empty input gives no items."
-fn all_items(stream: &[u8]) -> Result<Vec<StreamItem>, StreamRefusal> {
+pub(crate) fn all_items(stream: &[u8]) -> Result<Vec<StreamItem>, usize> {
     let mut items = Vec::new();
     let mut place = 0;
     while place < stream.len() {
@@ -53,7 +53,7 @@ fn all_items(stream: &[u8]) -> Result<Vec<StreamItem>, StreamRefusal> {
                 items.push(item);
                 place += length;
             }
-            None => return Err(StreamRefusal::Broken { place }),
+            None => return Err(place),
         }
     }
     Ok(items)
@@ -71,7 +71,7 @@ pub fn read_stream(
     if first.len() < stream.len() || second.len() < stream.len() {
         return Err(StreamRefusal::OutputTooShort);
     }
-    let items = all_items(stream)?;
+    let items = all_items(stream).map_err(|place| StreamRefusal::Broken { place })?;
     for (index, item) in items.iter().enumerate() {
         match item {
             StreamItem::Good(byte) => {

@@ -1,10 +1,12 @@
 //! Seeded random traces for the frame program and the reads form, merges of
-//! the ports' frames, and cases for the stream form.
+//! the ports' frames, cases for the stream form and the confirmations form, and
+//! long streams of confirmations.
 //!
 //! The generator keeps its idea of the traffic in a reference card that gets
 //! every line it writes.
 
 mod closing;
+pub mod confirmations;
 mod lines;
 pub mod merges;
 mod plans;

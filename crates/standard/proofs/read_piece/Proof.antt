@@ -1,8 +1,8 @@
 use mathlib.Core.Path.{_≡_}
 use lib.ListN.{length}
 use borrow.Author.Needs.{needs}
-use Rattle.shell.proofs.read_piece.Statement.{statement}
-use Rattle.shell.proofs.read_piece.Tie as tie
+use Rattle.standard.proofs.read_piece.Statement.{statement}
+use Rattle.standard.proofs.read_piece.Tie as tie
 
 abbrev Inv-loop : tie.InvT-loop
 Inv-loop piece₀ turns₀ t4 piece turns = length piece ≡ length piece₀

@@ -1,8 +1,8 @@
 use Prim.Native.Nat.{_≤_}
 use lib.ListN.{length}
 use borrow.Author.Needs.{needs}
-use Rattle.shell.proofs.write_text.Statement.{statement}
-use Rattle.shell.proofs.write_text.Tie as tie
+use Rattle.standard.proofs.write_text.Statement.{statement}
+use Rattle.standard.proofs.write_text.Tie as tie
 
 abbrev Inv-loop : tie.InvT-loop
 Inv-loop text done₀ turns₀ t5 done turns = done ≤ length text

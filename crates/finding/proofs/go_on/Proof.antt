@@ -1,0 +1,91 @@
+use borrow.Author.Needs.{needs}
+use native.Mathlib.Omega.{arith}
+use Prim.Native.Nat.{_-_}
+use lib.ListN.{length}
+use Rattle.finding.specs.Walk.{Follows}
+use Rattle.finding.specs.declared.Told.the-variants as told
+use Rattle.finding.proofs.Walking.{follows-start, follows-on, follows-quiet, walks-to-one, walks-to-end}
+use Rattle.finding.proofs.go_on.Statement.{statement}
+use Rattle.finding.proofs.go_on.Tie as tie
+use Rattle.finding.proofs.go_on.Reads as reads
+use Rattle.finding.proofs.go_on.Lts as lts
+use Rattle.finding.proofs.is_told.Reads as is-told-reads
+use Rattle.finding.proofs.take.Reads as take-reads
+
+abbrev Inv-loop : tie.InvT-loop
+Inv-loop piece from at₀ search₀ at search = Follows piece from search₀ told.Nothing at search
+
+abbrev μ-loop : tie.MeasureT-loop
+μ-loop piece from at₀ search₀ at search = length piece - at
+
+-- src/lib.rt:499:5
+loop-holds : tie.Need-loop-holds Inv-loop μ-loop
+loop-holds c = search (needs, follows-start)
+
+-- src/lib.rt:500:34
+shared-slice-read-take : tie.Need-shared-slice-read-take Inv-loop μ-loop
+shared-slice-read-take c = search needs
+
+-- src/lib.rt:500:13
+take-requires : tie.Need-take-requires Inv-loop μ-loop
+take-requires c κs = c .before .before .loop .inv .sound
+
+-- src/lib.rt:503:9
+add-at : tie.Need-add-at Inv-loop μ-loop
+add-at c = search needs
+
+-- src/lib.rt:505:12
+is-told-requires : tie.Need-is-told-requires Inv-loop μ-loop
+is-told-requires c κs = search needs
+
+-- src/lib.rt:506:13
+returns : tie.Need-returns Inv-loop μ-loop
+returns c =
+    let w = c .before .before .before .before .before .before .loop .inv in
+    walks-to-one
+    _
+    _
+    _
+    _
+    _
+    _
+    (follows-on _ _ _ _ _ w _ (omega arith) (c .before .before .before .take .ensures))
+    (search needs)
+    (omega (arith, w .onward))
+
+-- src/lib.rt:499:5
+loop-less : tie.Need-loop-less Inv-loop μ-loop
+loop-less c = search needs
+
+-- src/lib.rt:499:5
+loop-again : tie.Need-loop-again Inv-loop μ-loop
+loop-again c =
+    follows-quiet
+    _
+    _
+    _
+    _
+    _
+    _
+    (follows-on _ _ _ _ _ (c .before .before .before .before .before .before .loop .inv) _ (omega arith) (c .before .before .before .take .ensures))
+    (search needs)
+
+-- src/lib.rt:492:1
+returns-2 : tie.Need-returns-2 Inv-loop μ-loop
+returns-2 c = search (needs, walks-to-end)
+
+pub go-on-spec : {M : Type 1} → statement M
+go-on-spec =
+    tie.close
+    (tie.spec
+    Inv-loop
+    μ-loop
+    loop-holds
+    shared-slice-read-take
+    take-requires
+    add-at
+    is-told-requires
+    returns
+    loop-less
+    loop-again
+    returns-2)

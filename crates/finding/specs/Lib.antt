@@ -1,0 +1,4 @@
+pub mod Finder
+pub mod Search
+pub mod Bounds
+pub mod Walk
