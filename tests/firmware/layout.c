@@ -1,6 +1,6 @@
 /* Compares the header with the compiled library: calls alter a record, and every field must then be
- * found where the header says that it stands; and each fate must have the header's number. The last
- * line is 'N passed, M failed'. */
+ * found where the header says that it stands; and each fate, each judgement of a confirmation and the
+ * refusals of their list must have the header's numbers. The last line is 'N passed, M failed'. */
 #include "papergrotto.h"
 
 #include <stdalign.h>
@@ -141,6 +141,34 @@ static void fates(void)
     }
 }
 
+/* 5 litres, the same again, 7 with a gap, and one with a damaged digit */
+static const uint8_t stream[] = "\2" "0001 5\3\2" "0001 5\3\2" "0003 7\3\2" "00\xFF\0" "04 1\3";
+
+enum { ENTRIES = 4, BYTES = sizeof stream - 1 };
+
+static void confirmations(void)
+{
+    size_t places[ENTRIES];
+    uint16_t numbers[ENTRIES];
+    uint32_t litres[ENTRIES];
+    uint8_t judgements[ENTRIES];
+
+    EXPECT(papergrotto_confirmations(stream, BYTES, places, ENTRIES, numbers, ENTRIES, litres, ENTRIES - 1,
+                                     judgements, ENTRIES).refusal == PAPERGROTTO_TOO_MANY_ENTRIES);
+    EXPECT(papergrotto_confirmations(stream, BYTES - 5, places, ENTRIES, numbers, ENTRIES, litres, ENTRIES,
+                                     judgements, ENTRIES).refusal == PAPERGROTTO_BROKEN_STREAM);
+    struct papergrotto_told told = papergrotto_confirmations(stream, BYTES, places, ENTRIES, numbers, ENTRIES,
+                                                             litres, ENTRIES, judgements, ENTRIES);
+    EXPECT(told.refusal == PAPERGROTTO_SERVED && told.values[0] == ENTRIES && told.values[1] == 12);
+    EXPECT(places[0] == 0 && places[1] == 8 && places[2] == 16 && places[3] == 24);
+    EXPECT(numbers[0] == 1 && numbers[1] == 1 && numbers[2] == 3 && numbers[3] == 0);
+    EXPECT(litres[0] == 5 && litres[1] == 5 && litres[2] == 7 && litres[3] == 0);
+    EXPECT(judgements[0] == PAPERGROTTO_ACCEPTED);
+    EXPECT(judgements[1] == PAPERGROTTO_REPEATED);
+    EXPECT(judgements[2] == PAPERGROTTO_ACCEPTED_WITH_GAP);
+    EXPECT(judgements[3] == PAPERGROTTO_SET_ASIDE);
+}
+
 int main(void)
 {
     sizes();
@@ -148,6 +176,7 @@ int main(void)
     receive_queue();
     transmitter_and_flags();
     fates();
+    confirmations();
     printf("%d passed, %d failed\n", passed, failed);
     return failed != 0;
 }

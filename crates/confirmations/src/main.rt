@@ -1,30 +1,31 @@
 // Program: the yield sheet. A marked stream in, its confirmations and their litres out.
 //
-// Its dealings with the world: reads standard input to its end, however long, in constant memory, and writes what is found in a piece before it reads on.
-// What it finds and writes is proved in `reporting`; no contract can say what is read or written, so these functions are kept thin.
-ghost use mathlib.Core.Bool.{true, false};
+// Its dealings with the world: it reads standard input to its end, however long, in constant memory, and writes what is found in a piece before it
+// reads on. What it finds and writes is proved in `reporting`; no contract can say what is read or written, so these functions are kept thin.
+ghost use mathlib.Core.Bool.{false};
 ghost use mathlib.Core.Path.{_≡_};
 ghost use Prim.Native.Nat.{_≤_};
 ghost use lib.ListN.{length};
 ghost use Rattle.finding.specs.Bounds.{SoundSearch};
 ghost use Rattle.sheet.specs.Lines.{longest};
 ghost use Rattle.reporting.specs.Program.{PieceReported};
+ghost use Rattle.confirmations.specs.Carried.{GoesOn};
 use finding::Search;
 use standard::read_piece;
 use standard::write_text;
 
-// What is carried from piece to piece: the search, whether the last line was put, and whether the output is still open.
+// What is carried from piece to piece: the search, whether the last line was put, and whether the output was closed.
 struct Carried {
     search: Search,
     over: bool,
-    open: bool,
+    closed: bool,
 }
 
 // Reports a piece, and writes out what is found whenever there is no room for more, and at the end.
 fn list(before: Carried, piece: &[u8], out: &mut [u8]) -> Carried
-    requires { ⌜ SoundSearch (before .search) × ((before .over ≡ false) × (longest ≤ length (now out))) ⌝ }
+    requires { ⌜ GoesOn before × (longest ≤ length (now out)) ⌝ }
     ensures { λ r. ⌜ SoundSearch (r .search) ⌝ }
-    ensures { λ r. ⌜ (r .open ≡ true → PieceReported (now (piece .entry)) (before .search) (r .over) (r .search)) ⌝ }
+    ensures { λ r. ⌜ (r .closed ≡ false → PieceReported (now (piece .entry)) (before .search) (r .over) (r .search)) ⌝ }
 {
     let start = before.search;
     let mut search = start;
@@ -39,28 +40,29 @@ fn list(before: Carried, piece: &[u8], out: &mut [u8]) -> Carried
             return Carried {
                 search,
                 over: reported.over,
-                open: false,
+                closed: true,
             };
         }
         if reported.over {
             return Carried {
                 search,
                 over: true,
-                open: true,
+                closed: false,
             };
         }
     }
     Carried {
         search,
         over: false,
-        open: true,
+        closed: false,
     }
 }
 
-// The last line, at the input's end. An output that takes no more is no news here: the program ends anyway.
-fn close(search: Search, out: &mut [u8])
-    requires { ⌜ longest ≤ length (now out) ⌝ }
+// The last line, at the input's end. Whether the output takes it changes nothing more: the program ends.
+fn close(carried: Carried, out: &mut [u8])
+    requires { ⌜ GoesOn carried × (longest ≤ length (now out)) ⌝ }
 {
+    let search = carried.search;
     let put = reporting::finish(search, out);
     write_text(&out[..put]);
 }
@@ -91,7 +93,7 @@ fn main() {
     let mut carried = Carried {
         search: finding::beginning(),
         over: false,
-        open: true,
+        closed: false,
     };
     let mut piece = io::large_buffer();
     let mut out = io::large_buffer();
@@ -105,8 +107,7 @@ fn main() {
         }
         let n = got.long;
         if n == 0 {
-            let search = carried.search;
-            close(search, &mut out);
+            close(carried, &mut out);
             return;
         }
         carried = list(carried, &piece[..n], &mut out);
@@ -114,7 +115,7 @@ fn main() {
         if carried.over {
             return;
         }
-        if !carried.open {
+        if carried.closed {
             return;
         }
     }

@@ -65,7 +65,7 @@ form-kept-by f b s true true e h =
 form-kept-by f b s true false e h = other-sound
 form-kept-by f b s false fit e h = other-sound
 
-form-kept : (f : Form) (b : ℕ) → SoundForm f → SoundForm (formStep f b)
+pub form-kept : (f : Form) (b : ℕ) → SoundForm f → SoundForm (formStep f b)
 unfolding formStep
 form-kept f b s = form-kept-by f b s (ltb (f .seen) 11) (fits (f .seen) b) refl refl
 

@@ -4,5 +4,6 @@ pub mod Forms
 pub mod Finds
 pub mod Searching
 pub mod Walking
+pub mod Stretching
 pub mod Outcomes
 pub mod WholeStreams

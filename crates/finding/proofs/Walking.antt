@@ -22,6 +22,11 @@ follows-start piece from s sound h = record { comes = λ rest. refl; sound = sou
 next-byte : (piece : List ℕ) (at : ℕ) → at < length piece → drop at piece ≡ getD piece at 0 ∷ drop (at + 1) piece
 next-byte piece at h = rw (add-one, drop-cons piece at 0)
 
+pub follows-then : (piece : List ℕ) (from : ℕ) (s : Search) (at : ℕ) (t : Search) (o : Told) (end : ℕ) (u : Search)
+    → Follows piece from s told.Nothing at t → Follows piece at t o end u → Follows piece from s o end u
+follows-then piece from s at t o end u w v =
+    record { comes = λ rest. w .comes rest ∙ v .comes rest; sound = v .sound; onward = omega (arith, w .onward, v .onward); within = v .within }
+
 module _ (piece : List ℕ) (from : ℕ) (s : Search) (at : ℕ) (t : Search) (w : Follows piece from s told.Nothing at t) where
   pub follows-on : (k : Taken) → at < length piece → k ≡ take t (getD piece at 0) → Follows piece from s (k .told) (at + 1) (k .search)
   follows-on k h is =

@@ -1,4 +1,5 @@
 pub mod Finder
 pub mod Search
 pub mod Bounds
+pub mod Stretches
 pub mod Walk

@@ -8,7 +8,9 @@ ghost use Rattle.paper.specs.Confirmations.{judgementOn, counted, litresOf};
 ghost use Rattle.finding.specs.Finder as the;
 ghost use Rattle.finding.specs.Bounds.{character, SoundForm, SoundOpen, SoundLast, SoundFinder, SoundSearch};
 ghost use Rattle.finding.specs.Search as searched;
-ghost use Rattle.finding.specs.Walk.{Walks};
+ghost use Rattle.finding.specs.Stretches as stretches;
+ghost use Rattle.finding.specs.Stretches.{PlainTo, Formed};
+ghost use Rattle.finding.specs.Walk.{Follows, Walks};
 use paper::Confirmation;
 use paper::Entry;
 use paper::FURTHEST;
@@ -481,6 +483,141 @@ fn is_told(told: Told) -> bool
     }
 }
 
+// A STRETCH of good characters that neither begin nor end a run is gone through byte by byte, and the search is brought behind it at once.
+
+// Where the stretch from a place on ends: at an FF, an STX or an ETX, or at the piece's end.
+fn stretch_end(piece: &[u8], from: usize) -> usize
+    requires { ⌜ from ≤ length (now piece) ⌝ }
+    ensures { λ r. ⌜ PlainTo (now (piece .entry)) from r ⌝ }
+{
+    let mut at = from;
+    while at < piece.len() {
+        let byte = piece[at];
+        if byte == FF {
+            return at;
+        }
+        if byte == STX {
+            return at;
+        }
+        if byte == ETX {
+            return at;
+        }
+        at += 1;
+    }
+    at
+}
+
+// The same within a run, with the form behind it.
+struct Stretch {
+    at: usize,
+    form: Form,
+}
+
+fn stretch_form(piece: &[u8], from: usize, start: Form) -> Stretch
+    requires { ⌜ from ≤ length (now piece) ⌝ }
+    requires { ⌜ SoundForm start ⌝ }
+    ensures { λ r. ⌜ Formed (now (piece .entry)) from start (r .at) (r .form) ⌝ }
+{
+    let mut at = from;
+    let mut form = start;
+    while at < piece.len() {
+        let byte = piece[at];
+        if byte == FF {
+            return Stretch { at, form };
+        }
+        if byte == STX {
+            return Stretch { at, form };
+        }
+        if byte == ETX {
+            return Stretch { at, form };
+        }
+        form = form_step(form, byte);
+        at += 1;
+    }
+    Stretch { at, form }
+}
+
+// Where a search stands in a piece.
+struct Settled {
+    at: usize,
+    search: Search,
+}
+
+// The search behind so many good characters, at a place, with the run that they leave open.
+fn moved(s: Search, count: usize, run: Open, at: usize) -> Settled
+    requires { ⌜ SoundSearch s ⌝ }
+    requires { ⌜ s .finder .passed + count ≤ 6148914691236517205 ⌝ }
+    ensures { λ r. ⌜ r ≡ record { at = at; search = stretches.moved s count run } ⌝ }
+{
+    let before = s.finder;
+    let last = before.last;
+    let finder = Finder {
+        passed: before.passed + count,
+        run,
+        last,
+        sum: before.sum,
+    };
+    let search = Search {
+        part: PartRead::Nothing,
+        place: s.place + count,
+        finder,
+    };
+    Settled { at, search }
+}
+
+// Between two characters: behind the stretch that begins here, where all that is left of the piece can be counted.
+fn settle_between(s: Search, piece: &[u8], from: usize) -> Settled
+    requires { ⌜ SoundSearch s ⌝ }
+    requires { ⌜ s .part ≡ PartRead.Nothing ⌝ }
+    requires { ⌜ from ≤ length (now piece) ⌝ }
+    ensures { λ r. ⌜ Follows (now (piece .entry)) from s Told.Nothing (r .at) (r .search) ⌝ }
+{
+    let finder = s.finder;
+    if piece.len() - from > FURTHEST - finder.passed {
+        return Settled {
+            at: from,
+            search: s,
+        };
+    }
+    let run = finder.run;
+    match run {
+        Open::Outside => {
+            let at = stretch_end(piece, from);
+            moved(s, at - from, Open::Outside, at)
+        }
+        Open::Within(g) => {
+            let start = g.form;
+            let stretch = stretch_form(piece, from, start);
+            let form = stretch.form;
+            let begun = Begun {
+                place: g.place,
+                damaged: g.damaged,
+                form,
+            };
+            moved(s, stretch.at - from, Open::Within(begun), stretch.at)
+        }
+    }
+}
+
+fn settle(s: Search, piece: &[u8], from: usize) -> Settled
+    requires { ⌜ SoundSearch s ⌝ }
+    requires { ⌜ from ≤ length (now piece) ⌝ }
+    ensures { λ r. ⌜ Follows (now (piece .entry)) from s Told.Nothing (r .at) (r .search) ⌝ }
+{
+    let part = s.part;
+    match part {
+        PartRead::Nothing => settle_between(s, piece, from),
+        PartRead::Mark => Settled {
+            at: from,
+            search: s,
+        },
+        PartRead::MarkZero => Settled {
+            at: from,
+            search: s,
+        },
+    }
+}
+
 // Where a search stands in a piece of a stream: behind the byte that told something, or at the piece's end.
 pub struct Next {
     pub at: usize,
@@ -497,10 +634,20 @@ pub fn go_on(s: Search, piece: &[u8], from: usize) -> Next
     let mut at = from;
     let mut search = s;
     while at < piece.len() {
-        let taken = take(search, piece[at]);
+        let settled = settle(search, piece, at);
+        let behind = settled.search;
+        let place = settled.at;
+        if place >= piece.len() {
+            return Next {
+                at: place,
+                search: behind,
+                told: Told::Nothing,
+            };
+        }
+        let taken = take(behind, piece[place]);
         let ahead = taken.search;
         let told = taken.told;
-        at += 1;
+        at = place + 1;
         search = ahead;
         if is_told(told) {
             return Next { at, search, told };

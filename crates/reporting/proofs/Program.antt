@@ -46,7 +46,8 @@ last-as-given s counted [] = refl
 last-as-given s counted (b ∷ rest) = refl
 
 ending-as-given : (s : List ℕ) (counted : List Character) (rest : List ℕ) (t : Bool)
-    → endingLine (if t then endedBy (length s) counted rest else full (length counted)) ≡ (if t then lastLine s counted rest else fullLine (length counted))
+    → endingLine (if t then endedBy (length s) counted rest else full (length counted))
+    ≡ (if t then lastLine s counted rest else fullLine (length counted))
 ending-as-given s counted rest true = last-as-given s counted rest
 ending-as-given s counted rest false = refl
 
@@ -55,8 +56,8 @@ unfolding yieldSheet
 from-beginning input =
     let cs = readout input .characters in
     let counted = countedFront [] cs in
-    ap sheetOf (searches input)
-    ∙ ap (λ (last : List ℕ). linesOf (entries counted) ++ last) (ending-as-given input counted (readout input .rest) (eqb (length counted) (length cs)))
+    let last = ending-as-given input counted (readout input .rest) (eqb (length counted) (length cs)) in
+    ap sheetOf (searches input) ∙ ap (λ (line : List ℕ). linesOf (entries counted) ++ line) last
 
 pub sheet-as-the-paper : SheetAsThePaper
 sheet-as-the-paper =

@@ -1,5 +1,5 @@
--- THE SHEET, PIECE BY PIECE: calls of `report`, one after the other, each promise kept, and then the last line, write what the definitions give for the
--- whole input.
+-- THE SHEET, PIECE BY PIECE: calls of `report`, one after the other, each promise kept, and then the last line, write what the definitions give for
+-- the whole input.
 use mathlib.Core.Bool.{Bool, true, false}
 use mathlib.Core.List.{List, [], _++_}
 use mathlib.Core.Path.{_≡_}
@@ -11,8 +11,8 @@ use Rattle.finding.specs.declared.Search.{Search}
 use Rattle.reporting.specs.declared.Reported.{Reported}
 use Rattle.reporting.specs.Reports.{leftOf, Reports, Finishes}
 
--- A piece reported from a place on, by as many calls as it took: each began where the one before it stopped, and with nothing yet in the buffer that it
--- wrote to. To the piece's end; or until a call has put the last line, and then the rest of the piece is not looked at.
+-- A piece reported from a place on, by as many calls as it took: each began where the one before it stopped, and with nothing yet in the buffer that
+-- it wrote to. To the piece's end; or until a call has put the last line, and then the rest of the piece is not looked at.
 pub data ReportedFrom (piece : List ℕ) : (at : ℕ) → Search → (output : List ℕ) → (over : Bool) → Search → Type 0 where
   at-end : {s : Search} → ReportedFrom piece (length piece) s [] false s
   last-put : {s : Search} {at : ℕ} (out out' : List ℕ) (r : Reported) → Reports s piece at out 0 r out' → r .over ≡ true

@@ -45,8 +45,8 @@ isLast (One entry) = false
 isLast (Broken place) = true
 isLast (Full place) = true
 
--- What was written, and after it what is still to be written for all that is left, is what was to be written for the whole: the piece from the place on,
--- and whatever comes after the piece. So it does not matter where the input is cut.
+-- What was written, and after it what is still to be written for all that is left, is what was to be written for the whole: the piece from the place
+-- on, and whatever comes after the piece. So it does not matter where the input is cut.
 pub record Reports (s : Search) (piece : List ℕ) (from : ℕ) (out : List ℕ) (put : ℕ) (r : Reported) (out' : List ℕ) : Type 0 where
   pub whole : (rest : List ℕ) → take (r .put) out' ++ stillOf (r .over) (r .search) (drop (r .at) piece ++ rest)
       ≡ take put out ++ leftOf s (drop from piece ++ rest)

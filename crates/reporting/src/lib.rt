@@ -61,7 +61,8 @@ fn is_last(told: Told) -> bool
     }
 }
 
-// Reports a piece from a place on, until it ends, or there is no room for one line more, or the last line was put because the stream is broken or full.
+// Reports a piece from a place on, until it ends, or there is no room for one line more, or the last line was put because the stream is broken or
+// can be counted no further.
 pub fn report(start: Search, piece: &[u8], from: usize, out: &mut [u8], put: usize) -> Reported
     requires { ⌜ SoundSearch start × ((from ≤ length (now piece)) × (put ≤ length (now out))) ⌝ }
     ensures { λ r. ⌜ the.Reports start (now (piece .entry)) from (now (out .entry)) put r (now (out .exit)) ⌝ }

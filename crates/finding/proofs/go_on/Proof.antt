@@ -4,12 +4,13 @@ use Prim.Native.Nat.{_-_}
 use lib.ListN.{length}
 use Rattle.finding.specs.Walk.{Follows}
 use Rattle.finding.specs.declared.Told.the-variants as told
-use Rattle.finding.proofs.Walking.{follows-start, follows-on, follows-quiet, walks-to-one, walks-to-end}
+use Rattle.finding.proofs.Walking.{follows-start, follows-then, follows-on, follows-quiet, walks-to-one, walks-to-end}
 use Rattle.finding.proofs.go_on.Statement.{statement}
 use Rattle.finding.proofs.go_on.Tie as tie
 use Rattle.finding.proofs.go_on.Reads as reads
 use Rattle.finding.proofs.go_on.Lts as lts
 use Rattle.finding.proofs.is_told.Reads as is-told-reads
+use Rattle.finding.proofs.settle.Reads as settle-reads
 use Rattle.finding.proofs.take.Reads as take-reads
 
 abbrev Inv-loop : tie.InvT-loop
@@ -18,30 +19,38 @@ Inv-loop piece from at₀ search₀ at search = Follows piece from search₀ tol
 abbrev μ-loop : tie.MeasureT-loop
 μ-loop piece from at₀ search₀ at search = length piece - at
 
--- src/lib.rt:499:5
+-- src/lib.rt:636:5
 loop-holds : tie.Need-loop-holds Inv-loop μ-loop
 loop-holds c = search (needs, follows-start)
 
--- src/lib.rt:500:34
+-- src/lib.rt:637:13
+settle-requires : tie.Need-settle-requires Inv-loop μ-loop
+settle-requires c κs = let l = c .before .loop in (l .inv .sound, l .inv .within)
+
+-- src/lib.rt:641:13
+returns : tie.Need-returns Inv-loop μ-loop
+returns c = walks-to-end _ _ _ _ _ (follows-then _ _ _ _ _ _ _ _ (c .before .before .before .before .loop .inv) (c .before .before .settle .ensures)) (omega arith)
+
+-- src/lib.rt:647:34
 shared-slice-read-take : tie.Need-shared-slice-read-take Inv-loop μ-loop
 shared-slice-read-take c = search needs
 
--- src/lib.rt:500:13
+-- src/lib.rt:647:13
 take-requires : tie.Need-take-requires Inv-loop μ-loop
-take-requires c κs = c .before .before .loop .inv .sound
+take-requires c κs = c .before .before .before .settle .ensures .sound
 
--- src/lib.rt:503:9
+-- src/lib.rt:650:14
 add-at : tie.Need-add-at Inv-loop μ-loop
 add-at c = search needs
 
--- src/lib.rt:505:12
+-- src/lib.rt:652:12
 is-told-requires : tie.Need-is-told-requires Inv-loop μ-loop
 is-told-requires c κs = search needs
 
--- src/lib.rt:506:13
-returns : tie.Need-returns Inv-loop μ-loop
-returns c =
-    let w = c .before .before .before .before .before .before .loop .inv in
+-- src/lib.rt:653:13
+returns-2 : tie.Need-returns-2 Inv-loop μ-loop
+returns-2 c =
+    let w = (follows-then _ _ _ _ _ _ _ _ (c .before .before .before .before .before .before .before .before .before .loop .inv) (c .before .before .before .before .before .before .before .settle .ensures)) in
     walks-to-one
     _
     _
@@ -53,11 +62,11 @@ returns c =
     (search needs)
     (omega (arith, w .onward))
 
--- src/lib.rt:499:5
+-- src/lib.rt:636:5
 loop-less : tie.Need-loop-less Inv-loop μ-loop
-loop-less c = search needs
+loop-less c = omega (arith, c .before .before .before .before .before .before .before .settle .ensures .onward)
 
--- src/lib.rt:499:5
+-- src/lib.rt:636:5
 loop-again : tie.Need-loop-again Inv-loop μ-loop
 loop-again c =
     follows-quiet
@@ -67,12 +76,12 @@ loop-again c =
     _
     _
     _
-    (follows-on _ _ _ _ _ (c .before .before .before .before .before .before .loop .inv) _ (omega arith) (c .before .before .before .take .ensures))
+    (follows-on _ _ _ _ _ (follows-then _ _ _ _ _ _ _ _ (c .before .before .before .before .before .before .before .before .before .loop .inv) (c .before .before .before .before .before .before .before .settle .ensures)) _ (omega arith) (c .before .before .before .take .ensures))
     (search needs)
 
--- src/lib.rt:492:1
-returns-2 : tie.Need-returns-2 Inv-loop μ-loop
-returns-2 c = search (needs, walks-to-end)
+-- src/lib.rt:629:1
+returns-3 : tie.Need-returns-3 Inv-loop μ-loop
+returns-3 c = search (needs, walks-to-end)
 
 pub go-on-spec : {M : Type 1} → statement M
 go-on-spec =
@@ -81,11 +90,13 @@ go-on-spec =
     Inv-loop
     μ-loop
     loop-holds
+    settle-requires
+    returns
     shared-slice-read-take
     take-requires
     add-at
     is-told-requires
-    returns
+    returns-2
     loop-less
     loop-again
-    returns-2)
+    returns-3)

@@ -25,19 +25,19 @@ same-length : tie.Need-same-length
 same-length c = search needs
 
 returns : tie.Need-returns
-returns c = finishes _ _ (c .before .before .before .before .enum-told .given .1) _ _ _ (c .before .before .put-litres .ensures)
+returns c = finishes (c .before .before .before .before .enum-told .given .1) (c .before .before .put-litres .ensures)
 
 same-length-2 : tie.Need-same-length-2
 same-length-2 c = search needs
 
 returns-2 : tie.Need-returns-2
-returns-2 c = finishes _ _ (c .before .before .before .before .enum-told2 .given .1) _ _ _ (c .before .before .put-broken .ensures)
+returns-2 c = finishes (c .before .before .before .before .enum-told2 .given .1) (c .before .before .put-broken .ensures)
 
 same-length-3 : tie.Need-same-length-3
 same-length-3 c = search needs
 
 returns-3 : tie.Need-returns-3
-returns-3 c = finishes _ _ (c .before .before .before .before .enum-told3 .given .1) _ _ _ (c .before .before .put-broken2 .ensures)
+returns-3 c = finishes (c .before .before .before .before .enum-told3 .given .1) (c .before .before .put-broken2 .ensures)
 
 pub finish-spec : {M : Type 1} → statement M
 finish-spec =

@@ -16,17 +16,20 @@ abbrev μ-loop : tie.MeasureT-loop
 loop-holds : tie.Need-loop-holds Inv-loop μ-loop
 loop-holds c =
     let p = c .before .before .pre in
-    starts _ _ _ _ _ (p .0) (p .1 .0) (p .1 .1)
+    starts (p .0) (p .1 .0) (p .1 .1)
 
 goes-on-requires : tie.Need-goes-on-requires Inv-loop μ-loop
 goes-on-requires c κs = c .before .loop .inv .room
 
 go-on-requires : tie.Need-go-on-requires Inv-loop μ-loop
-go-on-requires c κs = (c .before .before .before .loop .inv .sound, c .before .before .before .loop .inv .within)
+go-on-requires c κs =
+    let here = c .before .before .before .loop .inv in
+    (here .sound, here .within)
 
 put-told-requires : tie.Need-put-told-requires Inv-loop μ-loop
 put-told-requires c κs =
-    more-room _ _ _ _ _ _ _ _ _ (c .before .before .before .before .before .before .loop .inv) _ (c .before .before .before .before .goes-on .ensures) (c .before .before .before .if1 .taken)
+    let g = c .before .before .before .before in
+    more-room (g .before .before .loop .inv) (g .goes-on .ensures) (c .before .before .before .if1 .taken)
 
 is-last-requires : tie.Need-is-last-requires Inv-loop μ-loop
 is-last-requires c κs = search needs
@@ -36,27 +39,32 @@ same-length c = search needs
 
 returns : tie.Need-returns Inv-loop μ-loop
 returns c =
-    let here = c .before .before .before .before .before .before .before .before .before .before .before .loop .inv in
-    let more = more-piece _ _ _ _ _ _ _ _ _ here _ (c .before .before .before .before .before .before .before .before .before .goes-on .ensures) (c .before .before .before .before .before .before .before .before .if1 .taken) in
-    ends _ _ _ _ _ _ _ _ _ here _ (c .before .before .before .before .before .before .before .go-on .ensures) more _ _ (c .before .before .before .before .put-told .ensures) (omega arith) _ (c .before .is-last .ensures) (c .if2 .taken)
+    let w = c .before .before .before .before in
+    let g = w .before .before .before in
+    let here = g .before .before .before .before .loop .inv in
+    let more = more-piece here (g .before .before .goes-on .ensures) (g .before .if1 .taken) in
+    ends here (g .go-on .ensures) more (w .put-told .ensures) (omega arith) (c .before .is-last .ensures) (c .if2 .taken)
 
 loop-less : tie.Need-loop-less Inv-loop μ-loop
 loop-less c =
-    let more = more-piece _ _ _ _ _ _ _ _ _ (c .before .before .before .before .before .before .before .before .before .before .before .loop .inv) _ (c .before .before .before .before .before .before .before .before .before .goes-on .ensures) (c .before .before .before .before .before .before .before .before .if1 .taken) in
-    let walks = c .before .before .before .before .before .before .before .go-on .ensures in
-    omega (arith, walks .further more, walks .follows .within)
+    let g = c .before .before .before .before .before .before .before in
+    let here = g .before .before .before .before .loop .inv in
+    let more = more-piece here (g .before .before .goes-on .ensures) (g .before .if1 .taken) in
+    omega (arith, g .go-on .ensures .further more, g .go-on .ensures .follows .within)
 
 loop-again : tie.Need-loop-again Inv-loop μ-loop
 loop-again c =
-    let here = c .before .before .before .before .before .before .before .before .before .before .before .loop .inv in
-    let more = more-piece _ _ _ _ _ _ _ _ _ here _ (c .before .before .before .before .before .before .before .before .before .goes-on .ensures) (c .before .before .before .before .before .before .before .before .if1 .taken) in
-    goes-on _ _ _ _ _ _ _ _ _ here _ (c .before .before .before .before .before .before .before .go-on .ensures) more _ _ (c .before .before .before .before .put-told .ensures) (omega arith) _ (c .before .is-last .ensures) (c .if2 .left)
+    let w = c .before .before .before .before in
+    let g = w .before .before .before in
+    let here = g .before .before .before .before .loop .inv in
+    let more = more-piece here (g .before .before .goes-on .ensures) (g .before .if1 .taken) in
+    goes-on here (g .go-on .ensures) more (w .put-told .ensures) (omega arith) (c .before .is-last .ensures) (c .if2 .left)
 
 same-length-2 : tie.Need-same-length-2 Inv-loop μ-loop
 same-length-2 c = search needs
 
 returns-2 : tie.Need-returns-2 Inv-loop μ-loop
-returns-2 c = stops-here _ _ _ _ _ _ _ _ _ (c .before .before .before .loop .inv) _ (c .before .goes-on .ensures) (c .if1 .left)
+returns-2 c = stops-here (c .before .before .before .loop .inv) (c .before .goes-on .ensures) (c .if1 .left)
 
 pub report-spec : {M : Type 1} → statement M
 report-spec =
