@@ -31,7 +31,7 @@ exit "$(cat status)"
 ''',
     TOOLCHAIN + '/lib/ld-linux-x86-64.so.2': '#!/bin/sh\nshift 2\nexec "$@"\n',
 }
-LIST = 'usage: papergrotto PROGRAM < INPUT\n  echo       gives back what it reads.\n'
+LIST = 'usage: papergrotto PROGRAM < INPUT\n  echo          gives back what it reads.\n'
 FIRST = 'papergrotto: proving and linking echo first; crates: 3\n'
 
 

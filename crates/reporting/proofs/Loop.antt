@@ -1,8 +1,8 @@
 -- The loop of `report`: what stands after each line.
 use mathlib.Core.Bool.{Bool, true, false, _&&_, true≢false}
-use mathlib.Core.List.{List, [], _∷_, _++_, append-assoc, append-nil}
+use mathlib.Core.List.{List, [], _++_, append-assoc, append-nil}
 use mathlib.Core.Path.{_≡_, refl, sym, ap, _∙_}
-use Prim.Native.Nat.{ℕ, _+_, _-_, _≤_, _<_}
+use Prim.Native.Nat.{ℕ, _-_, _≤_, _<_}
 use native.Mathlib.Omega.{arith}
 use lib.Dec.{eqb, leb, ltb}
 use lib.ListN.{length, take, drop, length-append, length-take}
@@ -18,7 +18,6 @@ use Rattle.finding.specs.declared.Told.{Told}
 use Rattle.finding.specs.declared.Told.the-variants.{Nothing, One, Broken, Full}
 use Rattle.hexadecimal.specs.Written.{Wrote}
 use Rattle.sheet.specs.Lines.{longest, Room}
-use Rattle.reporting.specs.declared.Reported.{Reported}
 use Rattle.reporting.specs.Reports.{endingLine, sheetOf, leftOf, stillOf, toldLine, isLast, Reports, Finishes}
 
 -- WHAT IS TOLD: its line, and then what is still to be written, is what was to be written

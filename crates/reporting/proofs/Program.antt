@@ -10,7 +10,7 @@ use Rattle.paper.specs.Choice.{if_then_else_}
 use Rattle.paper.specs.Stream.{Character, readout}
 use Rattle.paper.specs.Confirmations.{entries}
 use Rattle.paper.specs.Yield.{linesOf, fullLine, countedFront, lastLine, yieldSheet}
-use Rattle.finding.specs.Search.{Outcome, full, beginning, endedBy}
+use Rattle.finding.specs.Search.{full, beginning, endedBy}
 use Rattle.finding.specs.declared.Search.{Search}
 use Rattle.finding.proofs.Outcomes.{searches}
 use Rattle.reporting.specs.Reports.{endingLine, sheetOf, leftOf, stillOf}
