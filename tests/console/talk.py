@@ -1,4 +1,4 @@
-"""Talking with the frame program as another program would: starting it, asking it, feeding it in pieces."""
+"""Talking with a program as another program would: starting it, asking it, feeding it in pieces."""
 import fcntl
 import os
 import select

@@ -45,6 +45,10 @@ unfolding listed
 aside-cases =
     record {
       digit = refl;
+      sixth-digit = refl;
+      only-digit = refl;
+      damaged-zero = refl;
+      damaged-ff = refl;
       any-form = refl;
       before-first = refl;
       then-repeated = refl;

@@ -1,6 +1,6 @@
 -- What is listed, and what is accepted.
-use mathlib.Core.Path.{_≡_, refl, sym, ap, ap₂, _∙_}
-use mathlib.Core.Bool.{Bool, true, false}
+use mathlib.Core.Path.{_≡_, refl, sym, ap, ap₂, subst, _∙_}
+use mathlib.Core.Bool.{Bool, true, false, true≢false, or-true}
 use mathlib.Core.Logic.{⊎-elim, _≢_}
 use mathlib.Core.List.{List, [], _∷_, map, List·Memᴰ, List·Memᴰ·head, List·Memᴰ·tail, List·Memᴰ·not-nil, List·Memᴰ·cases-cons, Memᴰ·map, map-map}
 use mathlib.Core.Option.{Option, none, some, Option·some-ne-none}
@@ -9,7 +9,7 @@ use native.Mathlib.Omega.{arith}
 use lib.Dec.{eqb}
 use borrow.Author.Tests.{eqb-false}
 use Rattle.paper.specs.Choice.{if_then_else_}
-use Rattle.paper.specs.Stream.{Character, byte}
+use Rattle.paper.specs.Stream.{Character, good, damaged, byte}
 use Rattle.paper.specs.Confirmations.{confirmationOf, ahead, Run, runs, anyDamaged, Finding, finding, found, findings, next, judgementOn, judgement, counted, lastAfter, judge, judged, entries, accepted, said}
 use Rattle.paper.specs.declared.Confirmation.{Confirmation}
 use Rattle.paper.specs.declared.Judgement.{Judgement}
@@ -74,12 +74,32 @@ fewer least (r ∷ rs) a = by (anyDamaged (r .body)) (confirmationOf (map byte (
     by false none b = sooner least (r .place + 1) (map findingPlace (findings rs)) (omega (arith, a .0)) b
     by false (some c) b = (a .0, b)
 
+-- good characters are undamaged, and have the bytes they are made of
+all-undamaged : (bs : List ℕ) → anyDamaged (map good bs) ≡ false
+all-undamaged [] = refl
+all-undamaged (b ∷ bs) = all-undamaged bs
+
+bytes-back : (bs : List ℕ) → map byte (map good bs) ≡ bs
+bytes-back [] = refl
+bytes-back (b ∷ bs) = ap (λ (l : List ℕ). b ∷ l) (bytes-back bs)
+
+-- and undamaged ones are good
+all-good : (cs : List Character) → anyDamaged cs ≡ false → cs ≡ map good (map byte cs)
+all-good [] e = refl
+all-good (good b ∷ cs) e = ap (λ (l : List Character). good b ∷ l) (all-good cs e)
+all-good (damaged b ∷ cs) e = absurd (true≢false e)
+
+holds-damaged : {b : ℕ} {cs : List Character} → List·Memᴰ (damaged b) cs → anyDamaged cs ≡ true
+holds-damaged (List·Memᴰ·head e) = rw (← e)
+holds-damaged (List·Memᴰ·tail m) = rw (holds-damaged m, or-true)
+
 pub listed-once : (cs : List Character) → ListedOnce cs
 listed-once cs =
     record {
       listed = listed cs;
-      undamaged = λ r c s u f. in-entries cs r _ s (rw (u, right-form (map byte (r .body)) c .every f));
-      aside = λ r s d. in-entries cs r _ s (rw d);
+      undamaged = λ place bs c s f.
+          in-entries cs (record { place = place; body = map good bs }) _ s (rw (all-undamaged bs, bytes-back bs, right-form bs c .every f));
+      aside = λ r b s m. in-entries cs r _ s (rw (holds-damaged m));
       in-order = rw (← map-map findingPlace findingIn (entries cs), listed cs) (fewer 0 (runs cs) (all-runs cs .in-order));
     }
 
@@ -155,4 +175,9 @@ accepted-sound cs e c m h =
     let r = o .0 in
     let says = ap (λ (s : Option Confirmation). some (found-as (e .place) s)) (counted-said (e .judgement) c h) in
     let w = found-whole (r .place) (e .place) c (anyDamaged (r .body)) (confirmationOf (map byte (r .body))) (o .2 ∙ says) in
-    record { run = r; stands = stands cs r (o .1); place = w .0; undamaged = w .1; form = right-form (map byte (r .body)) c .only (w .2) }
+    let same = ap₂ {C = Run} (λ (p : ℕ) (l : List Character). record { place = p; body = l }) (w .0) (all-good (r .body) (w .1)) in
+    record {
+      bytes = map byte (r .body);
+      stands = subst (StandsIn cs) same (stands cs r (o .1));
+      form = right-form (map byte (r .body)) c .only (w .2);
+    }

@@ -6,16 +6,16 @@ use mathlib.Core.List.{List, [], _∷_, map, append-nil}
 use Prim.Native.Nat.{ℕ, _-_, _<_}
 use lib.Dec.{ltb}
 use lib.ListN.{length}
-use borrow.Author.Tests.{ltb-true, ltb-false, not-true, not-false}
+use borrow.Author.Tests.{le-ltb, ltb-true, ltb-false, not-true, not-false}
 use Rattle.paper.specs.Settings.{Size}
 use Rattle.paper.specs.Queue.{Slot, itemsOf}
 use Rattle.paper.specs.Stream.{Character, Readout, readout}
 use Rattle.paper.specs.Card.{Call}
 use Rattle.paper.specs.Run.{nameless}
 use Rattle.paper.specs.Confirmations.{entries, countable, LentList, placesOf, confirmedAs, confirm}
-use Rattle.demands.specs.Marks.{characterOf}
+use Rattle.demands.specs.Marks.{Accepts}
 use Rattle.demands.specs.History.{Entry, behindReset, Marking, history, queueHistory, NoReset}
-use Rattle.demands.specs.Confirmations.{NeverCountedTwice, SameCount, WholeWay, ListGives, broken, too-many, served, Confirmations}
+use Rattle.demands.specs.Confirmations.{NeverCountedTwice, Lists, WholeWay, ListGives, broken, too-many, served, Confirmations}
 use Rattle.demands.proofs.Choices.{chosen-or}
 use Rattle.demands.proofs.Reader.{first-broken}
 use Rattle.demands.proofs.Fifo.{first-in-first-out}
@@ -32,18 +32,19 @@ since-none : {A : Type 0} (kept es : List (Entry A)) → NoReset (queueHistory e
 since-none kept [] s = refl
 since-none kept (e ∷ es) s = rw (s .0) (since-none kept es (s .1))
 
-same-count : (cs ds : List Character) → cs ≡ ds → SameCount cs ds
-same-count cs ds e = rw e (record { entries = refl; sum = refl })
+lists : (s : List ℕ) (cs : List Character) → Accepts s cs → Lists s cs
+unfolding confirm
+lists s cs accepts l h e = rw (accepts, le-ltb (placesOf l) (length (entries cs)) h, e)
 
 whole-way : (z : Size) (n : ℕ) → n < 4 → (cs : List Call) → Marking (history z n (nameless cs)) → WholeWay z n cs
 whole-way z n small cs m =
     let es = history z n (nameless cs) in
-    let back = ap (λ (r : Readout). r .characters) (read-back z n small cs m) in
+    let back = read-back z n small cs m in
     record {
-      handed = same-count _ _ back;
+      handed = lists _ _ back;
       stored = λ steady empty.
           let all = rw (empty, since-none es es steady, append-nil) at (first-in-first-out Unit z n small (nameless cs)) in
-          same-count _ _ (back ∙ ap (λ (l : List (Slot Unit)). map characterOf (itemsOf l)) all);
+          lists _ _ (rw all at back);
     }
 
 -- THE CALL

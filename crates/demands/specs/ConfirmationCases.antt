@@ -94,6 +94,11 @@ spoiled = STX ∷ typed "00" ++ damaged 0x30 ∷ typed "2 3" ++ ETX ∷ []
 
 pub record AsideCases : Type 0 where
   pub digit : Shows spoiled (aside 0 ∷ []) 0
+  -- whichever it is: the sixth digit of the litres, their only one, a break, an FF
+  pub sixth-digit : Shows (STX ∷ typed "0001 12345" ++ damaged 0x36 ∷ ETX ∷ []) (aside 0 ∷ []) 0
+  pub only-digit : Shows (STX ∷ typed "0001 " ++ damaged 0x39 ∷ ETX ∷ []) (aside 0 ∷ []) 0
+  pub damaged-zero : Shows (STX ∷ typed "0001 2" ++ damaged 0x00 ∷ ETX ∷ []) (aside 0 ∷ []) 0
+  pub damaged-ff : Shows (STX ∷ typed "0001 2" ++ damaged 0xFF ∷ ETX ∷ []) (aside 0 ∷ []) 0
   -- of whatever form, and with nothing but the damaged character
   pub any-form : Shows (STX ∷ damaged 0x41 ∷ ETX ∷ []) (aside 0 ∷ []) 0
   -- it is not accepted: the first one behind it is the first, and a number is repeated, or the next, by the one before it

@@ -1,4 +1,5 @@
--- WHAT REQUEST n DEMANDS, each as a type: "litres are never counted twice and never from a damaged character". To be read with 02 n beside it.
+-- WHAT REQUEST n DEMANDS, each as a type: litres are never counted twice running, and never from a damaged character. To be read with 02 n beside it;
+-- what is quoted is the request's.
 use mathlib.Core.Path.{_≡_}
 use mathlib.Core.Bool.{true, false}
 use mathlib.Core.Logic.{_⊎_, _≢_}
@@ -8,10 +9,10 @@ use Prim.Native.Nat.{ℕ, _+_, _≤_, _<_}
 use lib.ListN.{length}
 use Rattle.paper.specs.Settings.{Size}
 use Rattle.paper.specs.Queue.{itemsOf}
-use Rattle.paper.specs.Stream.{Character, good, byte, readout}
+use Rattle.paper.specs.Stream.{Character, good, damaged}
 use Rattle.paper.specs.Card.{Call}
 use Rattle.paper.specs.Run.{nameless}
-use Rattle.paper.specs.Confirmations.{spelled, confirmationOf, inner, mark, Run, runs, anyDamaged, Finding, findings, counted, entries, accepted, sum, countable, said, LentList, placesOf, listedIn, Confirmed, confirm}
+use Rattle.paper.specs.Confirmations.{spelled, confirmationOf, inner, mark, Run, runs, Finding, findings, counted, entries, accepted, sum, countable, said, placeIn, LentList, placesOf, listedIn, Confirmed, confirm}
 use Rattle.paper.specs.declared.Refusal.the-variants.{BrokenStream, TooManyEntries}
 use Rattle.paper.specs.declared.Listing.the-variants.{Listed, Unlisted}
 use Rattle.paper.specs.declared.Confirmation.{Confirmation}
@@ -81,31 +82,26 @@ pub record RightForm (bs : List ℕ) (c : Confirmation) : Type 0 where
 abbrev pub findingIn : Entry → Finding
 findingIn e = record { place = e .place; content = said (e .judgement) }
 
-abbrev pub entryPlace : Entry → ℕ
-entryPlace e = e .place
-
--- the entries are what is found in the runs, one for one and in order: nothing else is listed. "every undamaged confirmation of the right form is
--- listed exactly once", as what it says, and every damaged one, set aside
+-- the entries are what is found in the runs, one for one and in order: nothing else is listed. Every undamaged confirmation of the right form is listed
+-- exactly once, as what it says, and every one that holds a damaged character, set aside
 pub record ListedOnce (cs : List Character) : Type 0 where
   pub listed : map findingIn (entries cs) ≡ findings (runs cs)
-  pub undamaged : (r : Run) (c : Confirmation) → StandsIn cs r → anyDamaged (r .body) ≡ false → Spells (map byte (r .body)) c
-      → List·Memᴰ (record { place = r .place; content = some c }) (map findingIn (entries cs))
-  pub aside : (r : Run) → StandsIn cs r → anyDamaged (r .body) ≡ true
+  pub undamaged : (place : ℕ) (bs : List ℕ) (c : Confirmation) → StandsIn cs (record { place = place; body = map good bs }) → Spells bs c
+      → List·Memᴰ (record { place = place; content = some c }) (map findingIn (entries cs))
+  pub aside : (r : Run) (b : ℕ) → StandsIn cs r → List·Memᴰ (damaged b) (r .body)
       → List·Memᴰ (record { place = r .place; content = none }) (map findingIn (entries cs))
-  pub in-order : Ascending 0 (map entryPlace (entries cs))
+  pub in-order : Ascending 0 (map placeIn (entries cs))
 
--- "an accepted entry is undamaged, of the right form": a run at its place says what is counted
+-- an accepted entry is undamaged, of the right form: at its place stands a run of good characters that spell what is counted
 pub record Sound (cs : List Character) (e : Entry) (c : Confirmation) : Type 0 where
-  pub run : Run
-  pub stands : StandsIn cs run
-  pub place : run .place ≡ e .place
-  pub undamaged : anyDamaged (run .body) ≡ false
-  pub form : Spells (map byte (run .body)) c
+  pub bytes : List ℕ
+  pub stands : StandsIn cs (record { place = e .place; body = map good bytes })
+  pub form : Spells bytes c
 
 abbrev pub AcceptedSound : List Character → Type 0
 AcceptedSound cs = (e : Entry) (c : Confirmation) → List·Memᴰ e (entries cs) → counted (e .judgement) ≡ some c → Sound cs e c
 
--- "its number differs from that of the accepted one before it"
+-- the number of an accepted one differs from that of the accepted one before it
 abbrev pub NoRepeat : LastAccepted → List Confirmation → Type 0
 NoRepeat last [] = Unit
 NoRepeat last (c ∷ cs) = (last ≢ Number (c .number)) × NoRepeat (Number (c .number)) cs
@@ -113,7 +109,7 @@ NoRepeat last (c ∷ cs) = (last ≢ Number (c .number)) × NoRepeat (Number (c 
 abbrev pub NeverTwice : List Character → Type 0
 NeverTwice cs = NoRepeat NoneYet (accepted (entries cs))
 
--- "litres are never counted twice and never from a damaged character"; the sum is over the accepted ones by its definition
+-- litres are never counted twice running, and never from a damaged character; the sum is over the accepted ones by its definition
 pub record NeverCountedTwice (cs : List Character) : Type 0 where
   pub runs : Runs cs
   pub once : ListedOnce cs
@@ -131,26 +127,26 @@ OutsideRuns a b =
 abbrev pub judgementOf : Entry → Judgement
 judgementOf e = e .judgement
 
--- "characters other than a good STX or a good ETX that are inserted, lost or damaged outside every run from a good STX to its ETX change no entry but
--- its place", and so not the sum
+-- characters other than a good STX or a good ETX that are inserted, lost or damaged outside every run change no entry but its place, and so not the sum
 pub record PlacesAlone (a x y b : List Character) : Type 0 where
   pub judgements : map judgementOf (entries (a ++ x ++ b)) ≡ map judgementOf (entries (a ++ y ++ b))
   pub sum : sum (a ++ x ++ b) ≡ sum (a ++ y ++ b)
 
 -- THE WHOLE WAY
 
--- two lists of characters have the same entries and the same sum
-pub record SameCount (cs ds : List Character) : Type 0 where
-  pub entries : entries cs ≡ entries ds
-  pub sum : sum cs ≡ sum ds
+-- the call over a stream, with places enough, lists what these characters come to
+abbrev pub Lists : List ℕ → List Character → Type 0
+Lists s cs =
+    (l : LentList) → length (entries cs) ≤ placesOf l → countable cs ≡ true
+    → confirm s l ≡ record { answer = Listed (length (entries cs)) (sum cs); list = listedIn (entries cs) l }
 
--- "for a channel in mark mode whose reads are put together and read back, entries and sum are those of the characters" that were handed over, and, once
--- all is read, "of the characters that arrived and were stored"
+-- a channel in mark mode, its reads put together and read back: entries and sum are those of the characters that were handed over and, once all is read,
+-- of the characters that arrived and were stored
 pub record WholeWay (z : Size) (n : ℕ) (cs : List Call) : Type 0 where
   pub handed : let qs = queueHistory (history z n (nameless cs)) in
-      SameCount (readout (bytesFound qs) .characters) (map characterOf (itemsOf (handed qs)))
+      Lists (bytesFound qs) (map characterOf (itemsOf (handed qs)))
   pub stored : let qs = queueHistory (history z n (nameless cs)) in
-      NoReset qs → after z n (nameless cs) .queue .slots ≡ [] → SameCount (readout (bytesFound qs) .characters) (map characterOf (itemsOf (stored qs)))
+      NoReset qs → after z n (nameless cs) .queue .slots ≡ [] → Lists (bytesFound qs) (map characterOf (itemsOf (stored qs)))
 
 -- THE CALL
 
