@@ -1,6 +1,7 @@
 /* A yield sheet from C: the confirmations of a marked stream, which comes on standard input, and the
  * sum of their litres, line by line as './papergrotto confirmations' prints them. That program takes
- * a stream of any length; this one keeps it in memory, and the list beside it. */
+ * a stream of any length; this one keeps it in memory, and the list beside it, and says so where it is
+ * longer. */
 #include "papergrotto.h"
 
 #include <inttypes.h>
@@ -8,7 +9,7 @@
 
 enum {
     LONGEST = 1 << 20,      /* bytes of a stream */
-    SHORTEST = 3            /* characters of an entry: STX, one that is damaged, ETX */
+    SHORTEST = 5            /* bytes of an entry: STX, FF 00 and a damaged byte, ETX */
 };
 
 static uint8_t stream[LONGEST];
@@ -45,9 +46,15 @@ static struct papergrotto_told list(size_t length)
 int main(void)
 {
     size_t length = fread(stream, 1, LONGEST, stdin);
-    struct papergrotto_told told = list(length), before = told;
+    struct papergrotto_told told, before;
 
+    /* a sum of a part would say that this is all */
+    if (getchar() != EOF || ferror(stdin)) {
+        fprintf(stderr, "standard input: too long, or it failed\n");
+        return 1;
+    }
     /* what stands before a broken FF can be listed by itself */
+    told = before = list(length);
     if (told.refusal == PAPERGROTTO_BROKEN_STREAM)
         before = list(told.values[0]);
     if (before.refusal != PAPERGROTTO_SERVED) {

@@ -191,7 +191,7 @@ size_t papergrotto_clean_front(const uint8_t *stream, size_t length);
  * stays. Lengths are counted in elements; the shortest of the four decides how many entries there is
  * room for. values[0]: how many entries; values[1]: the sum of the accepted litres. Refusals 8 and
  * 16, in this order. 16 also says that the characters or the litres are more than a third of what 64
- * bits count; no memory holds such a stream. */
+ * bits count: such a stream has 79 terabytes or more. */
 struct papergrotto_told papergrotto_confirmations(const uint8_t *stream, size_t length,
                                                   size_t *places, size_t places_length,
                                                   uint16_t *numbers, size_t numbers_length,

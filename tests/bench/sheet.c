@@ -149,16 +149,32 @@ static int take(uint8_t byte)
     return 0;
 }
 
+/* Passes over what stands outside every run; how many bytes. */
+static ssize_t outside(const uint8_t *from, const uint8_t *end)
+{
+    const uint8_t *at = from;
+
+    if (part != 0 || seen != OUTSIDE)
+        return 0;
+    while (at < end && *at != 0x02 && *at != 0xFF)
+        at++;
+    passed += (uint64_t)(at - from);
+    place += (uint64_t)(at - from);
+    return at - from;
+}
+
 int main(void)
 {
     ssize_t got;
 
     while ((got = read(0, piece, PIECE)) > 0) {
-        for (ssize_t at = 0; at < got; at++)
-            if (take(piece[at])) {
+        for (ssize_t at = 0; at < got; at++) {
+            at += outside(piece + at, piece + got);
+            if (at < got && take(piece[at])) {
                 last_line("refused 8 ", place);
                 return 0;
             }
+        }
         flush();
     }
     if (got == 0)

@@ -111,7 +111,7 @@ fn main() {
             return;
         }
         carried = list(carried, &piece[..n], &mut out);
-        // "in place of the last line": the rest of the input changes nothing
+        // the last line was put: the rest of the input changes nothing
         if carried.over {
             return;
         }

@@ -1,22 +1,21 @@
 -- The call's answers, by what the first pass counted.
-use mathlib.Core.Path.{_≡_, refl, sym, ap, _∙_}
+use mathlib.Core.Path.{_≡_, refl, sym, _∙_}
 use mathlib.Core.Bool.{Bool, true, false, not, _||_}
 use mathlib.Core.List.{List, [], _∷_}
-use Prim.Native.Nat.{ℕ, _≤_, min}
+use Prim.Native.Nat.{ℕ, _≤_}
 use native.Mathlib.Omega.{arith}
 use lib.Dec.{ltb}
 use lib.ListN.{length}
 use borrow.Author.Tests.{ltb-false}
 use Rattle.paper.specs.Choice.{if_then_else_}
 use Rattle.paper.specs.Stream.{readout}
-use Rattle.paper.specs.Confirmations.{entries, sum, countable, LentList, placesOf, listedIn, Confirmed, confirmedAs, confirm}
+use Rattle.paper.specs.Confirmations.{sum, countable, LentList, placesOf, listedIn, Confirmed, confirmedAs, confirm}
 use Rattle.paper.specs.declared.Refusal.the-variants.{BrokenStream, TooManyEntries}
 use Rattle.paper.specs.declared.Listing.the-variants.{Listed, Unlisted}
 use Rattle.stream.specs.Scan.{scanned}
-use Rattle.stream.specs.declared.Scan.the-variants.{Whole, Broken}
+use Rattle.stream.specs.declared.Scan.the-variants.{Broken}
 use Rattle.confirming.specs.Counted.{countedIn, entriesIn, HasPlaces}
 use Rattle.confirming.specs.Promise.{Promise, OneAnswer}
-use Rattle.confirming.specs.declared.Counted.{Counted}
 use Rattle.confirming.specs.declared.Counted.the-variants.{Entries, TooMany}
 
 promised : {s : List ℕ} {l : LentList} {r : Confirmed} → confirm s l ≡ r → Promise s l r

@@ -1,20 +1,18 @@
 -- What is left of a stream in either pass, and what the first pass answers.
 use mathlib.Core.Path.{_≡_, refl, sym, ap, _∙_}
-use mathlib.Core.Bool.{Bool, true, false, true≢false, not, _||_, or-true}
-use mathlib.Core.List.{List, [], _∷_, _++_, map, append-nil}
+use mathlib.Core.Bool.{true, false, true≢false, or-true}
+use mathlib.Core.List.{List, [], _++_, map, append-nil}
 use Prim.Native.Nat.{ℕ, _+_, _≤_, _<_}
 use native.Mathlib.Omega.{arith}
 use native.Mathlib.Numerals.{add-one}
 use native.Mathlib.Nat.{zero-add}
-use lib.Dec.{ltb}
 use lib.ListN.{length, drop, set, length-set, length-map, drop-of-length-le}
 use lib.Seq.{sets, sets-eq}
 use borrow.Author.Tests.{lt-ltb, le-ltb}
-use Rattle.paper.specs.Choice.{if_then_else_}
 use Rattle.paper.specs.Stream.{Character, readout, front}
 use Rattle.paper.specs.Confirmations.{entries, sum, countable, placeIn, numberIn, litresIn, judgementIn}
 use Rattle.paper.specs.declared.Entry.{Entry}
-use Rattle.finding.specs.Search.{beginning, Ending, ended, broken, full, Outcome, endAt, goesOn, outcome, Whole, counted, uncounted}
+use Rattle.finding.specs.Search.{beginning, ended, broken, full, Outcome, endAt, goesOn, outcome, Whole, counted, uncounted}
 use Rattle.finding.specs.Bounds.{SoundSearch}
 use Rattle.finding.specs.Walk.{Walks}
 use Rattle.finding.specs.declared.PartRead.{PartRead}

@@ -14,7 +14,7 @@ use paper::Listing;
 use paper::Refusal;
 use stream::Scan;
 
-// How many entries a stream has and the sum of their litres, or that these are more than a list has places for, or than can be counted.
+// How many entries a stream has and the sum of the accepted litres, or that these are more than a list has places for, or than can be counted.
 enum Counted {
     Entries(usize, usize),
     TooMany,
@@ -48,6 +48,7 @@ fn count(stream: &[u8], most: usize) -> Counted
                 }
                 count += 1;
             }
+            // a broken FF never comes: nothing is broken
             Told::Broken(_) => return Counted::TooMany,
             Told::Full(_) => return Counted::TooMany,
         }
@@ -160,8 +161,8 @@ fn list_whole(
     }
 }
 
-// Lists the confirmations of a marked stream in four lent columns, which have as many places as the shortest of them has: how many, and the sum of their
-// litres; or refusal 8 or 16, in this order.
+// Lists the confirmations of a marked stream in four lent columns, which have as many places as the shortest of them has: how many, and the sum of the
+// accepted litres; or refusal 8 or 16, in this order.
 pub fn list(
     stream: &[u8],
     places: &mut [usize],

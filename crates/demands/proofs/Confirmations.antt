@@ -1,15 +1,14 @@
 -- Request n: the whole way through the card, the call over a stream and a lent list, and all of it.
-use mathlib.Core.Path.{_≡_, refl, ap, _∙_}
+use mathlib.Core.Path.{_≡_, refl}
 use mathlib.Core.Bool.{not}
 use mathlib.Core.Logic.{inl, inr}
-use mathlib.Core.List.{List, [], _∷_, map, append-nil}
+use mathlib.Core.List.{List, [], _∷_, append-nil}
 use Prim.Native.Nat.{ℕ, _-_, _<_}
 use lib.Dec.{ltb}
 use lib.ListN.{length}
 use borrow.Author.Tests.{le-ltb, ltb-true, ltb-false, not-true, not-false}
 use Rattle.paper.specs.Settings.{Size}
-use Rattle.paper.specs.Queue.{Slot, itemsOf}
-use Rattle.paper.specs.Stream.{Character, Readout, readout}
+use Rattle.paper.specs.Stream.{Character, readout}
 use Rattle.paper.specs.Card.{Call}
 use Rattle.paper.specs.Run.{nameless}
 use Rattle.paper.specs.Confirmations.{entries, countable, LentList, placesOf, confirmedAs, confirm}

@@ -5,13 +5,13 @@ use mathlib.Core.Logic.{_⊎_, _≢_}
 use mathlib.Core.List.{List, [], _∷_, _++_, map}
 use mathlib.Core.Option.{Option, none, some}
 use Prim.Native.Nat.{ℕ, _+_, _-_, _*_, _≤_, _<_, min}
-use lib.ListN.{length, getD, take, drop, replicate}
+use lib.ListN.{length, getD, drop, replicate}
 use Rattle.paper.specs.Settings.{Size, cardSize}
 use Rattle.paper.specs.Arrival.{NL, marking, arrival}
 use Rattle.paper.specs.Queue.{oldest, itemsOf, overruns}
 use Rattle.paper.specs.Stream.{Character, good, damaged, images, sort, byte, front, Decoded, decode, cleanFront}
 use Rattle.paper.specs.Transmitter.{Transmitter, transmitDepth, load, turn}
-use Rattle.paper.specs.Channel.{Channel, ChannelCall, arrive, read, reset, state, transmit, lent, written}
+use Rattle.paper.specs.Channel.{ChannelCall, arrive, read, reset, state, transmit, lent, written}
 use Rattle.paper.specs.Card.{Card, freshCard, Call, on, pick, placeOn, step, at, ready}
 use Rattle.paper.specs.Run.{Named, run, seen, end, nameless}
 use Rattle.paper.specs.Bounds.{Sound}
@@ -33,7 +33,7 @@ use Rattle.demands.specs.Examples.{Ranges, Crossed, Table, DamagedTable,
 use Rattle.demands.specs.ConfirmationCases.{JudgedCases, AsideCases, RunCases, FormCases, ConfirmCases, TheScale, YieldCases}
 use Rattle.demands.specs.Confirmations.{Confirmations}
 use Rattle.demands.specs.Marks.{characterOf, stream, Accepts, FirstBroken}
-use Rattle.demands.specs.History.{isRefused, Entry, callsOn, port, history, after, events, Marking, sinceReset, queueHistory, NoReset, handed, bytesFound, stored, lost, gathered, TransmitEntry, goesAs, transmitHistory, between, Before, befores, numbered, Each, NoWorse, NoPick}
+use Rattle.demands.specs.History.{isRefused, callsOn, port, history, after, events, Marking, sinceReset, queueHistory, NoReset, handed, bytesFound, stored, lost, gathered, TransmitEntry, goesAs, transmitHistory, between, Before, befores, numbered, Each, NoWorse, NoPick}
 use Rattle.demands.specs.Conditions.{conditions, FirstDue}
 use Rattle.demands.specs.Spelling.{Spells, Calls, frameOf}
 

@@ -5,9 +5,8 @@ use mathlib.Core.Option.{Option, none, some}
 use Prim.Native.Nat.{ℕ, _+_}
 use native.Mathlib.Omega.{arith}
 use Rattle.paper.specs.Stream.{Character}
-use Rattle.paper.specs.Confirmations.{Mark, start, finish, inner, mark, ahead, bodyAt, body, Run, runAt, runsFrom, Finding, found, findings, counted, lastAfter, judge, judged, accepted, litres, litresOf}
-use Rattle.paper.specs.Confirmations as the
-use Rattle.finding.specs.Finder.{fresh, grown, grow, closing, quiet, tell, close, stepAt, step, beginning, told, tells, after, Finds}
+use Rattle.paper.specs.Confirmations.{Mark, start, finish, inner, mark, ahead, bodyAt, body, Run, runAt, runsFrom, Finding, found, findings, judge, judged, accepted, litres, litresOf}
+use Rattle.finding.specs.Finder.{fresh, grow, closing, quiet, tell, close, stepAt, step, beginning, told, tells, after, Finds}
 use Rattle.paper.specs.declared.Confirmation.{Confirmation}
 use Rattle.paper.specs.declared.Entry.{Entry}
 use Rattle.finding.specs.declared.Open.{Open}

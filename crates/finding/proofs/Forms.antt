@@ -1,18 +1,18 @@
 -- The form that the finder follows byte by byte is that of all the bytes.
-use mathlib.Core.Path.{_≡_, refl, sym, ap, _∙_}
+use mathlib.Core.Path.{_≡_, refl, sym, _∙_}
 use mathlib.Core.Bool.{Bool, true, false, _&&_, _||_, or-assoc, or-false}
 use mathlib.Core.List.{List, [], _∷_, map}
 use mathlib.Core.Option.{Option, none, some}
 use Prim.Native.Nat.{ℕ, suc, _+_, _*_, _-_, _≤_, _<_}
 use native.Mathlib.Omega.{arith}
-use lib.Dec.{eqb, leb, ltb}
+use lib.Dec.{leb, ltb}
 use lib.ListN.{length, take, drop}
 use lib.Seq.{take-nil, drop-nil}
-use borrow.Author.Tests.{ltb-true, ltb-false, lt-ltb, le-ltb, le-leb, lt-leb}
+use borrow.Author.Tests.{ltb-true, ltb-false, lt-leb}
 use Rattle.paper.specs.Choice.{if_then_else_}
-use Rattle.paper.specs.Stream.{Character, good, damaged, byte}
-use Rattle.paper.specs.Confirmations.{spelled, fits, allFit, rightLength, confirmationOf, isDamaged, anyDamaged, Finding, finding, found, Run}
-use Rattle.finding.specs.Finder.{formed, otherForm, formStep, contentIn, fresh, grown, grow, closing}
+use Rattle.paper.specs.Stream.{Character, damaged, byte}
+use Rattle.paper.specs.Confirmations.{spelled, fits, allFit, rightLength, confirmationOf, anyDamaged, found}
+use Rattle.finding.specs.Finder.{formed, otherForm, formStep, contentIn, fresh, grown, closing}
 use Rattle.paper.specs.declared.Confirmation.{Confirmation}
 use Rattle.finding.specs.declared.Form.{Form}
 use Rattle.finding.specs.declared.Begun.{Begun}

@@ -3,20 +3,20 @@ use mathlib.Core.Path.{_≡_, refl, sym, ap, ap₂, _∙_}
 use mathlib.Core.Bool.{Bool, true, false, true≢false}
 use mathlib.Core.List.{List, [], _∷_, _++_, append-assoc, append-nil}
 use mathlib.Core.Option.{Option, none, some}
-use Prim.Native.Nat.{ℕ, _+_, _-_, _≤_}
+use Prim.Native.Nat.{ℕ, _+_}
 use native.Mathlib.Omega.{arith}
-use lib.Dec.{eqb, leb}
+use lib.Dec.{eqb}
 use lib.ListN.{length, length-append}
 use borrow.Author.Tests.{eq-eqb, ne-eqb}
 use Rattle.paper.specs.Choice.{if_then_else_}
 use Rattle.paper.specs.Stream.{Character, good, damaged, Readout, Open, nothing, mark, markZero, first, stop, readOn, readout}
-use Rattle.paper.specs.Confirmations.{Mark, start, finish, inner, Finding, entries, sum, countable, furthest, accepted, litres}
+use Rattle.paper.specs.Confirmations.{Mark, start, finish, inner, Finding, entries, sum, countable, accepted, litres}
 use Rattle.paper.specs.Confirmations as runs
 use Rattle.paper.specs.Yield.{countedFront}
 use Rattle.paper.specs.declared.Entry.{Entry}
 use Rattle.finding.specs.Finder.{closing, close, stepAt, step, counts, advance, told, tells, after}
 use Rattle.finding.specs.Finder as finder
-use Rattle.finding.specs.Search.{beginning, waits, passed, pass, takenAt, take, Ending, ended, broken, full, Outcome, ends, endAt, goesOn, outcome, endedBy, endingOf, comesTo, Searches}
+use Rattle.finding.specs.Search.{beginning, waits, passed, pass, takenAt, Ending, ended, broken, full, Outcome, ends, goesOn, outcome, endedBy, endingOf, Searches}
 use Rattle.finding.specs.declared.Finder.{Finder}
 use Rattle.finding.specs.declared.Found.{Found}
 use Rattle.finding.specs.declared.Found.the-variants as found
@@ -24,7 +24,6 @@ use Rattle.finding.specs.declared.Step.{Step}
 use Rattle.finding.specs.declared.PartRead.{PartRead}
 use Rattle.finding.specs.declared.PartRead.the-variants as parts
 use Rattle.finding.specs.declared.Search.{Search}
-use Rattle.finding.specs.declared.Told.{Told}
 use Rattle.finding.specs.declared.Told.the-variants as told-as
 use Rattle.finding.specs.declared.Taken.{Taken}
 use Rattle.finding.proofs.Searching.{counts-one, isFull, taken}

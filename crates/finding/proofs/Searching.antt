@@ -2,16 +2,16 @@
 use mathlib.Core.Path.{_≡_, refl, sym, ap, _∙_}
 use mathlib.Core.Bool.{Bool, true, false, _&&_}
 use mathlib.Core.Option.{Option, none, some}
-use Prim.Native.Nat.{ℕ, _+_, _*_, _≤_}
+use Prim.Native.Nat.{ℕ, _+_, _≤_}
 use native.Mathlib.Omega.{arith}
 use lib.Dec.{eqb, leb}
-use borrow.Author.Tests.{eq-eqb, ne-eqb, leb-true}
+use borrow.Author.Tests.{ne-eqb, leb-true}
 use Rattle.paper.specs.Choice.{if_then_else_}
 use Rattle.paper.specs.Stream.{Character, good, damaged}
 use Rattle.paper.specs.Confirmations.{Mark, start, finish, inner, mark, Finding, furthest}
 use Rattle.finding.specs.Finder.{closing, close, stepAt, step, counts, full, advance}
 use Rattle.finding.specs.Search.{beginning, waits, behind, passed, pass, takenAt, take}
-use Rattle.finding.specs.Bounds.{SoundFinder, SoundSearch, Bounds}
+use Rattle.finding.specs.Bounds.{SoundSearch, Bounds}
 use Rattle.finding.specs.declared.Finder.{Finder}
 use Rattle.finding.specs.declared.Found.{Found}
 use Rattle.finding.specs.declared.Found.the-variants as found

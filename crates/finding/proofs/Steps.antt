@@ -1,25 +1,23 @@
 -- One law for each way through the finder's code.
-use mathlib.Core.Path.{_≡_, refl, sym, ap, _∙_}
-use mathlib.Core.Bool.{Bool, true, false, _&&_, _||_}
-use mathlib.Core.Option.{Option, none, some}
+use mathlib.Core.Path.{_≡_, refl}
+use mathlib.Core.Bool.{Bool, true, false}
+use mathlib.Core.Option.{none, some}
 use Prim.Native.Nat.{ℕ, zero, suc, _+_, _*_, _-_, _≤_, _<_, min}
 use native.Mathlib.Omega.{arith}
-use lib.Dec.{eqb, leb, ltb}
-use borrow.Author.Tests.{eq-eqb, ne-eqb, lt-ltb, le-ltb, le-leb, lt-leb, ltb-true}
+use lib.Dec.{eqb, ltb}
+use borrow.Author.Tests.{ne-eqb, lt-ltb, le-ltb, le-leb, lt-leb}
 use Rattle.paper.specs.Choice.{if_then_else_}
-use Rattle.paper.specs.Stream.{Character, good, damaged}
-use Rattle.paper.specs.Confirmations.{mark, digit, fits, rightLength, finding, next, judgementOn, judgement, counted, judge, litresOf, furthest}
-use Rattle.finding.specs.Finder.{formed, otherForm, formStep, contentIn, fresh, grown, grow, closing, quiet, tell, close, stepAt, step, counts, full, advance}
-use Rattle.finding.specs.Bounds.{character, tens, SoundForm, SoundOpen, SoundLast, SoundFinder}
+use Rattle.paper.specs.Stream.{Character, damaged}
+use Rattle.paper.specs.Confirmations.{mark, digit, fits, next, judgementOn, judgement, counted, litresOf, furthest}
+use Rattle.finding.specs.Finder.{formed, otherForm, formStep, contentIn, fresh, grown, grow, closing, quiet, tell, close, step, counts, full, advance}
+use Rattle.finding.specs.Bounds.{character, tens, SoundForm}
 use Rattle.paper.specs.declared.Confirmation.{Confirmation}
-use Rattle.paper.specs.declared.Judgement.{Judgement}
 use Rattle.paper.specs.declared.Judgement.the-variants.{Accepted, Gap, Repeated, Aside}
 use Rattle.paper.specs.declared.LastAccepted.{LastAccepted}
 use Rattle.paper.specs.declared.LastAccepted.the-variants.{NoneYet, Number}
 use Rattle.paper.specs.declared.Entry.{Entry}
 use Rattle.finding.specs.declared.Form.{Form}
 use Rattle.finding.specs.declared.Begun.{Begun}
-use Rattle.finding.specs.declared.Open.{Open}
 use Rattle.finding.specs.declared.Open.the-variants.{Outside, Within}
 use Rattle.finding.specs.declared.Finder.{Finder}
 use Rattle.finding.specs.declared.Found.the-variants.{One}

@@ -1,21 +1,20 @@
 -- A stretch, gone through byte by byte, is what the search makes of its bytes one after the other.
-use mathlib.Core.Path.{_≡_, refl, sym, ap, subst, _∙_}
-use mathlib.Core.Bool.{Bool, true, false, or-false}
+use mathlib.Core.Path.{_≡_, refl, ap, subst, _∙_}
+use mathlib.Core.Bool.{or-false}
 use mathlib.Core.Logic.{_≢_, ⊎-elim}
 use mathlib.Core.List.{List}
 use Prim.Native.Nat.{ℕ, zero, suc, _+_, _-_, _≤_, _<_}
 use native.Mathlib.Omega.{arith}
 use native.Mathlib.Nat.{eq-or-lt-of-le}
-use lib.Dec.{eqb, leb}
 use lib.ListN.{length, getD}
 use borrow.Author.Tests.{ne-eqb, le-leb}
 use Rattle.paper.specs.Stream.{good}
 use Rattle.paper.specs.Confirmations.{mark, inner, furthest}
-use Rattle.finding.specs.Finder.{formStep, grown, grow, quiet, stepAt, step, counts, advance}
+use Rattle.finding.specs.Finder.{formStep, grow, quiet, step, counts, advance}
 use Rattle.finding.specs.Search.{pass, takenAt, take}
 use Rattle.finding.specs.Bounds.{SoundForm, SoundSearch}
 use Rattle.finding.specs.Stretches.{Plain, PlainTo, formOver, Formed, moved}
-use Rattle.finding.specs.Walk.{Follows, Walks}
+use Rattle.finding.specs.Walk.{Follows}
 use Rattle.finding.specs.declared.Form.{Form}
 use Rattle.finding.specs.declared.Begun.{Begun}
 use Rattle.finding.specs.declared.Open.{Open}

@@ -1,20 +1,19 @@
 -- The front of a stream's characters that can be counted is all of them, or they cannot be counted.
 use mathlib.Core.Path.{_≡_, refl, sym, ap, _∙_}
 use mathlib.Core.Bool.{Bool, true, false, true≢false, _&&_}
-use mathlib.Core.Logic.{_⊎_, inl, inr}
 use mathlib.Core.List.{List, [], _∷_, _++_, append-assoc, append-nil}
 use Prim.Native.Nat.{ℕ, _+_, _≤_, _<_}
 use native.Mathlib.Omega.{arith}
-use lib.Dec.{eqb, leb}
+use lib.Dec.{leb}
 use lib.ListN.{length, length-append}
 use borrow.Author.Tests.{eq-eqb, ne-eqb, le-leb, leb-true}
 use Rattle.paper.specs.Choice.{if_then_else_}
 use Rattle.paper.specs.Stream.{Character, readout}
-use Rattle.paper.specs.Confirmations.{sum, countable, furthest, accepted, litres}
+use Rattle.paper.specs.Confirmations.{sum, countable, furthest, litres}
 use Rattle.paper.specs.Yield.{countedFront}
-use Rattle.finding.specs.Finder.{tells, after}
+use Rattle.finding.specs.Finder.{after}
 use Rattle.finding.specs.Finder as finder
-use Rattle.finding.specs.Search.{Outcome, outcome, beginning, endingOf, comesTo, Whole, counted, uncounted, WholeStreams}
+use Rattle.finding.specs.Search.{beginning, comesTo, Whole, counted, uncounted, WholeStreams}
 use Rattle.finding.specs.declared.Finder.{Finder}
 use Rattle.finding.proofs.Finds.{after-pieces, sum-after}
 use Rattle.finding.proofs.Outcomes.{sum-of, searches}

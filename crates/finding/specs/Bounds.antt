@@ -1,19 +1,16 @@
 -- The bounds within which no number of the finder or of the search runs over: shown of the beginning and kept by every step.
-use mathlib.Core.Path.{_≡_}
 use mathlib.Core.Bool.{Bool, true, false}
-use Prim.Native.Nat.{ℕ, zero, suc, _+_, _*_, _-_, _≤_, _<_, min}
+use Prim.Native.Nat.{ℕ, zero, suc, _*_, _-_, _≤_, _<_, min}
 use Rattle.paper.specs.Stream.{Character, good, damaged}
 use Rattle.finding.specs.Finder.{advance}
 use Rattle.finding.specs.Finder as finder
 use Rattle.finding.specs.Search.{beginning, take}
 use Rattle.finding.specs.declared.Search.{Search}
 use Rattle.finding.specs.declared.Form.{Form}
-use Rattle.finding.specs.declared.Begun.{Begun}
 use Rattle.paper.specs.declared.LastAccepted.{LastAccepted}
 use Rattle.paper.specs.declared.LastAccepted.the-variants.{NoneYet, Number}
 use Rattle.finding.specs.declared.Open.{Open}
 use Rattle.finding.specs.declared.Open.the-variants.{Outside, Within}
-use Rattle.paper.specs.declared.Entry.{Entry}
 use Rattle.finding.specs.declared.Finder.{Finder}
 
 -- a character, as the reader's two lists have it

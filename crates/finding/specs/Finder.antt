@@ -1,6 +1,6 @@
 -- THE FINDER: one character a step, in constant memory. `step` is over numbers of any size; `advance`, which the code promises, ends where they no
 -- longer can be counted. What `step` tells of characters are their entries (Finds).
-use mathlib.Core.Bool.{Bool, true, false, _&&_, _||_}
+use mathlib.Core.Bool.{Bool, false, _&&_, _||_}
 use mathlib.Core.Path.{_≡_}
 use mathlib.Core.List.{List, [], _∷_, _++_}
 use mathlib.Core.Option.{Option, none, some}
@@ -8,7 +8,7 @@ use Prim.Native.Nat.{ℕ, _+_, _*_, _-_}
 use lib.Dec.{leb, ltb}
 use Rattle.paper.specs.Choice.{if_then_else_}
 use Rattle.paper.specs.Stream.{Character, byte}
-use Rattle.paper.specs.Confirmations.{Mark, start, finish, inner, mark, ahead, fits, rightLength, isDamaged, Finding, finding, counted, litresOf, lastAfter, judge, furthest, entries, sum}
+use Rattle.paper.specs.Confirmations.{Mark, start, finish, inner, mark, fits, rightLength, isDamaged, Finding, finding, counted, litresOf, lastAfter, judge, furthest, entries, sum}
 use Rattle.paper.specs.declared.Confirmation.{Confirmation}
 use Rattle.paper.specs.declared.Entry.{Entry}
 use Rattle.paper.specs.declared.LastAccepted.the-variants.{NoneYet}

@@ -24,13 +24,13 @@ abbrev pub digitsOf : (enough : ℕ) → ℕ → ℕ
 digitsOf zero n = 1
 digitsOf (suc enough) n = if ltb n 10 then 1 else digitsOf enough (n / 10) + 1
 
--- all its digits, so "without leading zeros"
+-- all its digits, and so no leading zero
 unfoldable pub decimal : ℕ → List ℕ
 decimal n = lastDigits (digitsOf n n) n
 
 -- LINES
 
--- "numbers with their four digits, litres without leading zeros"
+-- the number with its four digits, litres without leading zeros
 unfoldable pub words : Confirmation → List ℕ
 words c = lastDigits 4 (c .number) ++ text " " ++ decimal (c .litres)
 
@@ -65,7 +65,7 @@ abbrev pub countedFront : (front rest : List Character) → List Character
 countedFront front [] = front
 countedFront front (c ∷ cs) = if countable (front ++ c ∷ []) then countedFront (front ++ c ∷ []) cs else front
 
--- "A broken stream: what stands before the broken FF is listed, then `refused 8 PLACE` ... in place of the last line."
+-- of a broken stream what stands before the broken FF is listed, and the refusal with its place stands in place of the sum
 abbrev pub lastLine : List ℕ → (counted : List Character) → (rest : List ℕ) → List ℕ
 lastLine s counted [] = litresLine (sum counted)
 lastLine s counted (b ∷ rest) = brokenLine (length s - length (b ∷ rest))

@@ -168,7 +168,7 @@ pub extern "C" fn papergrotto_clean_front(stream: &[u8]) -> usize
     front.len()
 }
 
-// 02 n, "Confirmations": the entries of a stream, in four lent columns; how many, and the sum of their litres.
+// 02 n, "Confirmations": the entries of a stream, in four lent columns; how many, and the sum of the accepted litres.
 #[no_mangle]
 pub extern "C" fn papergrotto_confirmations(
     stream: &[u8],

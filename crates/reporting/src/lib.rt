@@ -49,7 +49,7 @@ fn put_told(out: &mut [u8], at: usize, told: Told) -> usize
     }
 }
 
-// "then `refused 8 PLACE` ... in place of the last line": nothing follows a broken FF, nor a character that cannot be counted.
+// Nothing follows a broken FF, nor a character that cannot be counted.
 fn is_last(told: Told) -> bool
     ensures { λ r. ⌜ r ≡ the.isLast told ⌝ }
 {

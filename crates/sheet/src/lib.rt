@@ -56,7 +56,7 @@ fn put_digits(out: &mut [u8], at: usize, count: usize, number: usize) -> usize
     at + count
 }
 
-// "without leading zeros"
+// Without leading zeros.
 fn put_decimal(out: &mut [u8], at: usize, number: usize) -> usize
     requires { ⌜ at + length (decimal number) ≤ length (now out) ⌝ }
     ensures { λ r. ⌜ Wrote (now (out .entry)) at (decimal number) (now (out .exit)) r ⌝ }
@@ -75,7 +75,7 @@ fn put_line(out: &mut [u8], at: usize, told: &[u8], number: usize) -> usize
     put_text(out, end, b"\n")
 }
 
-// `NUMBER LITRES` behind the word for how it is judged, and a newline: "numbers with their four digits, litres without leading zeros"
+// `NUMBER LITRES` behind the word for how it is judged, and a newline: the number with its four digits, litres without leading zeros.
 fn put_said(out: &mut [u8], at: usize, judged: &[u8], said: Confirmation) -> usize
     requires { ⌜ at + length (now judged) + longestSaid ≤ length (now out) ⌝ }
     ensures { λ r. ⌜ Wrote (now (out .entry)) at (now (judged .entry) ++ (words said ++ text "\n")) (now (out .exit)) r ⌝ }

@@ -79,7 +79,7 @@ pub fn tell_reading(reading: Reading) -> Told
     }
 }
 
-// How many entries a list has and the sum of their litres, or the refusal.
+// How many entries a list has and the sum of the accepted litres, or the refusal.
 pub fn tell_listing(listing: Listing) -> Told
     ensures { λ r. ⌜ r ≡ listingTold listing ⌝ }
 {

@@ -1,18 +1,12 @@
 use borrow.Author.Needs.{needs}
 use native.Mathlib.Omega.{arith}
-use mathlib.Core.Path.{refl}
 use Prim.Native.Nat.{_-_, _≤_}
 use lib.ListN.{length}
 use Rattle.paper.specs.Stream.{readout}
-use Rattle.finding.proofs.Searching.{bounds}
 use Rattle.finding.proofs.WholeStreams.{whole-streams}
 use Rattle.confirming.proofs.Passes.{Passing, passing-start, passes-on, passes-one, one-there, ends-full, ends-broken, all-behind, ends-here, too-many, too-far, unbroken, all-counted}
 use Rattle.confirming.proofs.count.Statement.{statement}
 use Rattle.confirming.proofs.count.Tie as tie
-use Rattle.confirming.proofs.count.Reads as reads
-use Rattle.confirming.proofs.count.Lts as lts
-use Rattle.finding.proofs.beginning.Reads as beginning-reads
-use Rattle.finding.proofs.go_on.Reads as go-on-reads
 
 abbrev Inv-loop : tie.InvT-loop
 Inv-loop stream most search₀ at₀ count₀ search at count = Passing stream search at count × (count ≤ most)
@@ -20,34 +14,27 @@ Inv-loop stream most search₀ at₀ count₀ search at count = Passing stream s
 abbrev μ-loop : tie.MeasureT-loop
 μ-loop stream most search₀ at₀ count₀ search at count = length stream - at
 
--- src/lib.rt:34:9
 beginning-requires : tie.Need-beginning-requires Inv-loop μ-loop
 beginning-requires c κs = search needs
 
--- src/lib.rt:37:5
 loop-holds : tie.Need-loop-holds Inv-loop μ-loop
 loop-holds c = (rw (c .beginning .ensures) (passing-start _), omega arith)
 
--- src/lib.rt:38:13
 go-on-requires : tie.Need-go-on-requires Inv-loop μ-loop
 go-on-requires c κs = let l = c .before .loop in (l .inv .0 .sound, l .inv .0 .within)
 
 enum-told : tie.Need-enum-told Inv-loop μ-loop
 enum-told c = search needs
 
--- src/lib.rt:37:5
 loop-less : tie.Need-loop-less Inv-loop μ-loop
 loop-less c = let w = c .before .before .before .go-on .ensures in omega (arith, w .further (omega arith), w .follows .within)
 
--- src/lib.rt:37:5
 loop-again : tie.Need-loop-again Inv-loop μ-loop
 loop-again c = let l = c .before .before .before .before .before .loop in (passes-on (l .inv .0) (c .before .before .before .go-on .ensures) (c .enum-told .given .1), l .inv .1)
 
--- src/lib.rt:46:20
 enum-told-2 : tie.Need-enum-told-2 Inv-loop μ-loop
 enum-told-2 c = search needs
 
--- src/lib.rt:47:21
 returns : tie.Need-returns Inv-loop μ-loop
 returns c =
     let a = c .before .before .before .before .before .before .before .before .before in
@@ -59,23 +46,18 @@ returns c =
     (whole-streams s (a .pre))
     (omega (arith, one-there (l .inv .0) (c .before .before .before .before .go-on .ensures) _ (c .before .enum-told2 .given .1)))
 
--- src/lib.rt:49:17
 add-count : tie.Need-add-count Inv-loop μ-loop
 add-count c = search needs
 
--- src/lib.rt:37:5
 loop-less-2 : tie.Need-loop-less-2 Inv-loop μ-loop
 loop-less-2 c = let w = c .before .before .before .before .go-on .ensures in omega (arith, w .further (omega arith), w .follows .within)
 
--- src/lib.rt:37:5
 loop-again-2 : tie.Need-loop-again-2 Inv-loop μ-loop
 loop-again-2 c = let l = c .before .before .before .before .before .before .loop in (passes-one (l .inv .0) (c .before .before .before .before .go-on .ensures) _ (c .before .enum-told2 .given .1), omega arith)
 
--- src/lib.rt:51:32
 enum-told-3 : tie.Need-enum-told-3 Inv-loop μ-loop
 enum-told-3 c = search needs
 
--- src/lib.rt:51:32
 returns-2 : tie.Need-returns-2 Inv-loop μ-loop
 returns-2 c =
     let a = c .before .before .before .before .before .before .before .before in
@@ -88,11 +70,9 @@ returns-2 c =
     _
     (ends-broken (c .before .before .before .before .before .loop .inv .0) (c .before .before .before .go-on .ensures) _ (c .enum-told3 .given .1)))
 
--- src/lib.rt:52:30
 enum-told-4 : tie.Need-enum-told-4 Inv-loop μ-loop
 enum-told-4 c = search needs
 
--- src/lib.rt:52:30
 returns-3 : tie.Need-returns-3 Inv-loop μ-loop
 returns-3 c =
     let a = c .before .before .before .before .before .before .before .before in
@@ -104,7 +84,6 @@ returns-3 c =
     _
     (ends-full (c .before .before .before .before .before .loop .inv .0) (c .before .before .before .go-on .ensures) _ (c .enum-told4 .given .1))
 
--- src/lib.rt:30:1
 returns-4 : tie.Need-returns-4 Inv-loop μ-loop
 returns-4 c =
     let a = c .before .before .before .before .before in

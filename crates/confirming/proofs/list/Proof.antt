@@ -4,48 +4,34 @@ use Rattle.stream.proofs.Laws.{nothing-left}
 use Rattle.confirming.proofs.Calls.{refuses-broken}
 use Rattle.confirming.proofs.list.Statement.{statement}
 use Rattle.confirming.proofs.list.Tie as tie
-use Rattle.confirming.proofs.list.Reads as reads
-use Rattle.confirming.proofs.list.Lts as lts
-use Rattle.confirming.proofs.list_whole.Reads as list-whole-reads
-use Rattle.stream.proofs.first_broken.Reads as first-broken-reads
 
--- src/lib.rt:177:11
 first-broken-requires : tie.Need-first-broken-requires
 first-broken-requires c κs = search needs
 
--- src/lib.rt:178:22
 enum-known-place : tie.Need-enum-known-place
 enum-known-place c = search needs
 
--- src/lib.rt:179:43
 enum-told : tie.Need-enum-told
 enum-told c = search needs
 
--- src/lib.rt:179:24
 list-whole-requires : tie.Need-list-whole-requires
 list-whole-requires c κs = nothing-left _ _ (sym (c .before .before .before .before .enum-told .given .1) ∙ c .before .before .before .before .before .before .first-broken .ensures)
 
--- src/lib.rt:165:1
 returns : tie.Need-returns
 returns c = refuses-broken _ _ _ (sym (c .before .place .given .1) ∙ c .before .before .before .first-broken .ensures)
 
--- src/lib.rt:165:1
 same-length : tie.Need-same-length
 same-length c = search needs
 
--- src/lib.rt:165:1
 same-length-2 : tie.Need-same-length-2
 same-length-2 c = search needs
 
--- src/lib.rt:165:1
 same-length-3 : tie.Need-same-length-3
 same-length-3 c = search needs
 
--- src/lib.rt:165:1
 same-length-4 : tie.Need-same-length-4
 same-length-4 c = search needs
 
--- src/lib.rt:165:1
 returns-2 : tie.Need-returns-2
 returns-2 c = search needs
 

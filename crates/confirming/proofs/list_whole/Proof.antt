@@ -4,65 +4,47 @@ use Rattle.paper.specs.Confirmations.{LentList}
 use Rattle.confirming.proofs.Calls.{refuses-many, has-places, lists}
 use Rattle.confirming.proofs.list_whole.Statement.{statement}
 use Rattle.confirming.proofs.list_whole.Tie as tie
-use Rattle.confirming.proofs.list_whole.Reads as reads
-use Rattle.confirming.proofs.list_whole.Lts as lts
-use Rattle.confirming.proofs.count.Reads as count-reads
-use Rattle.confirming.proofs.put_entries.Reads as put-entries-reads
-use Rattle.confirming.proofs.smaller.Reads as smaller-reads
 
--- src/lib.rt:151:9
 smaller-requires : tie.Need-smaller-requires
 smaller-requires c κs = search needs
 
--- src/lib.rt:152:9
 smaller-requires-2 : tie.Need-smaller-requires-2
 smaller-requires-2 c κs = search needs
 
--- src/lib.rt:150:9
 smaller-requires-3 : tie.Need-smaller-requires-3
 smaller-requires-3 c κs = search needs
 
--- src/lib.rt:154:11
 count-requires : tie.Need-count-requires
 count-requires c κs = search needs
 
--- src/lib.rt:155:47
 enum-told : tie.Need-enum-told
 enum-told c = search needs
 
--- src/lib.rt:156:29
 enum-known-sum : tie.Need-enum-known-sum
 enum-known-sum c = search needs
 
--- src/lib.rt:157:13
 put-entries-requires : tie.Need-put-entries-requires
 put-entries-requires c κs =
     let l : LentList = record { places = c .before .before .before .before .before .before .before .before .before .before .before .before .before .before .before .before .args .places .now; numbers = c .before .before .before .before .before .before .before .before .before .before .before .before .before .before .before .before .args .numbers .now; litres = c .before .before .before .before .before .before .before .before .before .before .before .before .before .before .before .before .args .litres .now; judgements = c .before .before .before .before .before .before .before .before .before .before .before .before .before .before .before .before .args .judgements .now } in
     has-places (c .before .before .before .before .before .before .before .before .before .before .before .before .before .before .before .before .args .stream .now) l (c .before .before .before .before .before .before .before .before .before .before .before .before .before .before .before .before .pre) _ _ (sym (c .before .before .before .before .before .sum .given .1) ∙ rw (c .before .before .before .before .before .before .before .before .smaller3 .ensures, c .before .before .before .before .before .before .before .before .before .before .smaller .ensures, c .before .before .before .before .before .before .before .before .before .smaller2 .ensures) at (c .before .before .before .before .before .before .before .count .ensures))
 
--- src/lib.rt:137:1
 returns : tie.Need-returns
 returns c =
     let l : LentList = record { places = c .before .before .before .before .before .before .before .before .before .before .before .args .places .now; numbers = c .before .before .before .before .before .before .before .before .before .before .before .args .numbers .now; litres = c .before .before .before .before .before .before .before .before .before .before .before .args .litres .now; judgements = c .before .before .before .before .before .before .before .before .before .before .before .args .judgements .now } in
     refuses-many (c .before .before .before .before .before .before .before .before .before .before .before .args .stream .now) l (c .before .before .before .before .before .before .before .before .before .before .before .pre) (sym (c .enum-told .given .1) ∙ rw (c .before .before .before .smaller3 .ensures, c .before .before .before .before .before .smaller .ensures, c .before .before .before .before .smaller2 .ensures) at (c .before .before .count .ensures))
 
--- src/lib.rt:137:1
 same-length : tie.Need-same-length
 same-length c = search needs
 
--- src/lib.rt:137:1
 same-length-2 : tie.Need-same-length-2
 same-length-2 c = search needs
 
--- src/lib.rt:137:1
 same-length-3 : tie.Need-same-length-3
 same-length-3 c = search needs
 
--- src/lib.rt:137:1
 same-length-4 : tie.Need-same-length-4
 same-length-4 c = search needs
 
--- src/lib.rt:137:1
 returns-2 : tie.Need-returns-2
 returns-2 c =
     let l : LentList = record { places = c .before .before .before .before .before .before .before .before .before .before .before .before .before .before .before .before .before .before .before .before .before .before .before .before .before .args .places .now; numbers = c .before .before .before .before .before .before .before .before .before .before .before .before .before .before .before .before .before .before .before .before .before .before .before .before .before .args .numbers .now; litres = c .before .before .before .before .before .before .before .before .before .before .before .before .before .before .before .before .before .before .before .before .before .before .before .before .before .args .litres .now; judgements = c .before .before .before .before .before .before .before .before .before .before .before .before .before .before .before .before .before .before .before .before .before .before .before .before .before .args .judgements .now } in

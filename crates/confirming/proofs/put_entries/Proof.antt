@@ -5,13 +5,6 @@ use lib.ListN.{length}
 use Rattle.confirming.proofs.Passes.{Putting, putting-start, puts-on, puts-one, room-there, never-broken, never-full, all-put}
 use Rattle.confirming.proofs.put_entries.Statement.{statement}
 use Rattle.confirming.proofs.put_entries.Tie as tie
-use Rattle.confirming.proofs.put_entries.Reads as reads
-use Rattle.confirming.proofs.put_entries.Lts as lts
-use Rattle.confirming.proofs.litres_of.Reads as litres-of-reads
-use Rattle.confirming.proofs.number_for.Reads as number-for-reads
-use Rattle.confirming.proofs.number_of.Reads as number-of-reads
-use Rattle.finding.proofs.beginning.Reads as beginning-reads
-use Rattle.finding.proofs.go_on.Reads as go-on-reads
 
 abbrev Inv-loop : tie.InvT-loop
 Inv-loop stream places₀ numbers₀ litres₀ judgements₀ search₀ at₀ count₀ places numbers litres judgements search at count =
@@ -21,85 +14,66 @@ abbrev μ-loop : tie.MeasureT-loop
 μ-loop stream places₀ numbers₀ litres₀ judgements₀ search₀ at₀ count₀ places numbers litres judgements search at count =
     length stream - at
 
--- src/lib.rt:109:9
 beginning-requires : tie.Need-beginning-requires Inv-loop μ-loop
 beginning-requires c κs = search needs
 
--- src/lib.rt:112:5
 loop-holds : tie.Need-loop-holds Inv-loop μ-loop
 loop-holds c = rw (c .beginning .ensures) (putting-start _ _ _ _ _)
 
--- src/lib.rt:113:13
 go-on-requires : tie.Need-go-on-requires Inv-loop μ-loop
 go-on-requires c κs = let l = c .before .loop in (l .inv .passing .sound, l .inv .passing .within)
 
 enum-told : tie.Need-enum-told Inv-loop μ-loop
 enum-told c = search needs
 
--- src/lib.rt:112:5
 loop-less : tie.Need-loop-less Inv-loop μ-loop
 loop-less c = let w = c .before .before .before .go-on .ensures in omega (arith, w .further (omega arith), w .follows .within)
 
--- src/lib.rt:112:5
 loop-again : tie.Need-loop-again Inv-loop μ-loop
 loop-again c = puts-on (c .before .before .before .before .before .loop .inv) (c .before .before .before .go-on .ensures) (c .enum-told .given .1)
 
--- src/lib.rt:120:23
 enum-known-told : tie.Need-enum-known-told Inv-loop μ-loop
 enum-known-told c = search needs
 
--- src/lib.rt:122:17
 mul-places : tie.Need-mul-places Inv-loop μ-loop
 mul-places c =
     omega (arith, (room-there (c .before .before .before .before .before .before .loop .inv) (c .before .before .before .before .go-on .ensures) (c .before .before .before .before .before .before .before .before .before .before .before .before .before .pre) _ (c .before .told .given .1)) .in-places, c .before .before .before .before .before .before .loop .inv .fills-places .long, c .before .before .before .before .before .before .before .before .before .before .before .before .before .good)
 
--- src/lib.rt:122:17
 slice-write-places : tie.Need-slice-write-places Inv-loop μ-loop
 slice-write-places c = (room-there (c .before .before .before .before .before .before .loop .inv) (c .before .before .before .before .go-on .ensures) (c .before .before .before .before .before .before .before .before .before .before .before .before .before .pre) _ (c .before .told .given .1)) .in-places
 
--- src/lib.rt:123:34
 number-of-requires : tie.Need-number-of-requires Inv-loop μ-loop
 number-of-requires c κs = search needs
 
--- src/lib.rt:123:17
 mul-numbers : tie.Need-mul-numbers Inv-loop μ-loop
 mul-numbers c =
     omega (arith, (room-there (c .before .before .before .before .before .before .before .loop .inv) (c .before .before .before .before .before .go-on .ensures) (c .before .before .before .before .before .before .before .before .before .before .before .before .before .before .pre) _ (c .before .before .told .given .1)) .in-numbers, c .before .before .before .before .before .before .before .loop .inv .fills-numbers .long, c .before .before .before .before .before .before .before .before .before .before .before .before .before .before .good)
 
--- src/lib.rt:123:17
 slice-write-numbers : tie.Need-slice-write-numbers Inv-loop μ-loop
 slice-write-numbers c = (room-there (c .before .before .before .before .before .before .before .loop .inv) (c .before .before .before .before .before .go-on .ensures) (c .before .before .before .before .before .before .before .before .before .before .before .before .before .before .pre) _ (c .before .before .told .given .1)) .in-numbers
 
--- src/lib.rt:124:33
 litres-of-requires : tie.Need-litres-of-requires Inv-loop μ-loop
 litres-of-requires c κs = search needs
 
--- src/lib.rt:124:17
 mul-litres : tie.Need-mul-litres Inv-loop μ-loop
 mul-litres c =
     omega (arith, (room-there (c .before .before .before .before .before .before .before .before .loop .inv) (c .before .before .before .before .before .before .go-on .ensures) (c .before .before .before .before .before .before .before .before .before .before .before .before .before .before .before .pre) _ (c .before .before .before .told .given .1)) .in-litres, c .before .before .before .before .before .before .before .before .loop .inv .fills-litres .long, c .before .before .before .before .before .before .before .before .before .before .before .before .before .before .before .good)
 
--- src/lib.rt:124:17
 slice-write-litres : tie.Need-slice-write-litres Inv-loop μ-loop
 slice-write-litres c = (room-there (c .before .before .before .before .before .before .before .before .loop .inv) (c .before .before .before .before .before .before .go-on .ensures) (c .before .before .before .before .before .before .before .before .before .before .before .before .before .before .before .pre) _ (c .before .before .before .told .given .1)) .in-litres
 
--- src/lib.rt:125:37
 number-for-requires : tie.Need-number-for-requires Inv-loop μ-loop
 number-for-requires c κs = search needs
 
--- src/lib.rt:125:17
 slice-write-judgements : tie.Need-slice-write-judgements Inv-loop μ-loop
 slice-write-judgements c = (room-there (c .before .before .before .before .before .before .before .before .before .loop .inv) (c .before .before .before .before .before .before .before .go-on .ensures) (c .before .before .before .before .before .before .before .before .before .before .before .before .before .before .before .before .pre) _ (c .before .before .before .before .told .given .1)) .in-judgements
 
--- src/lib.rt:126:17
 add-count : tie.Need-add-count Inv-loop μ-loop
 add-count c = omega (arith, (room-there (c .before .before .before .before .before .before .before .before .before .loop .inv) (c .before .before .before .before .before .before .before .go-on .ensures) (c .before .before .before .before .before .before .before .before .before .before .before .before .before .before .before .before .pre) _ (c .before .before .before .before .told .given .1)) .in-places, c .before .before .before .before .before .before .before .before .before .loop .inv .fills-places .long, c .before .before .before .before .before .before .before .before .before .before .before .before .before .before .before .before .good)
 
--- src/lib.rt:112:5
 loop-less-2 : tie.Need-loop-less-2 Inv-loop μ-loop
 loop-less-2 c = let w = c .before .before .before .before .before .before .before .go-on .ensures in omega (arith, w .further (c .before .before .before .before .before .before .before .before .loop-test .taken), w .follows .within)
 
--- src/lib.rt:112:5
 loop-again-2 : tie.Need-loop-again-2 Inv-loop μ-loop
 loop-again-2 c =
     rw (c .before .before .number-of .ensures, c .before .litres-of .ensures, c .number-for .ensures)
@@ -108,42 +82,33 @@ loop-again-2 c =
 enum-told-2 : tie.Need-enum-told-2 Inv-loop μ-loop
 enum-told-2 c = search needs
 
--- src/lib.rt:112:5
 loop-less-3 : tie.Need-loop-less-3 Inv-loop μ-loop
 loop-less-3 c = absurd (never-broken (c .before .before .before .before .before .loop .inv) (c .before .before .before .go-on .ensures) (c .before .before .before .before .before .before .before .before .before .before .before .before .pre) _ (c .enum-told2 .given .1))
 
--- src/lib.rt:112:5
 loop-again-3 : tie.Need-loop-again-3 Inv-loop μ-loop
 loop-again-3 c = absurd (never-broken (c .before .before .before .before .before .loop .inv) (c .before .before .before .go-on .ensures) (c .before .before .before .before .before .before .before .before .before .before .before .before .pre) _ (c .enum-told2 .given .1))
 
 enum-told-3 : tie.Need-enum-told-3 Inv-loop μ-loop
 enum-told-3 c = search needs
 
--- src/lib.rt:112:5
 loop-less-4 : tie.Need-loop-less-4 Inv-loop μ-loop
 loop-less-4 c = absurd (never-full (c .before .before .before .before .before .loop .inv) (c .before .before .before .go-on .ensures) (c .before .before .before .before .before .before .before .before .before .before .before .before .pre) _ (c .enum-told3 .given .1))
 
--- src/lib.rt:112:5
 loop-again-4 : tie.Need-loop-again-4 Inv-loop μ-loop
 loop-again-4 c = absurd (never-full (c .before .before .before .before .before .loop .inv) (c .before .before .before .go-on .ensures) (c .before .before .before .before .before .before .before .before .before .before .before .before .pre) _ (c .enum-told3 .given .1))
 
--- src/lib.rt:95:1
 same-length : tie.Need-same-length Inv-loop μ-loop
 same-length c = search needs
 
--- src/lib.rt:95:1
 same-length-2 : tie.Need-same-length-2 Inv-loop μ-loop
 same-length-2 c = search needs
 
--- src/lib.rt:95:1
 same-length-3 : tie.Need-same-length-3 Inv-loop μ-loop
 same-length-3 c = search needs
 
--- src/lib.rt:95:1
 same-length-4 : tie.Need-same-length-4 Inv-loop μ-loop
 same-length-4 c = search needs
 
--- src/lib.rt:95:1
 returns : tie.Need-returns Inv-loop μ-loop
 returns c = all-put (c .before .loop .inv) (c .before .before .before .before .before .before .before .before .pre) (c .loop-test .left)
 

@@ -1,48 +1,34 @@
 use borrow.Author.Needs.{needs}
 use native.Mathlib.Omega.{arith}
-use mathlib.Core.Path.{ap, _∙_, sym}
+use mathlib.Core.Path.{_∙_}
 use Rattle.finding.proofs.Steps.{litres-whole, close-aside, close-short, close-long, close-listed, counted-small}
 use Rattle.finding.proofs.close.Statement.{statement}
 use Rattle.finding.proofs.close.Tie as tie
-use Rattle.finding.proofs.close.Reads as reads
-use Rattle.finding.proofs.close.Lts as lts
-use Rattle.finding.proofs.quiet.Reads as quiet-reads
-use Rattle.finding.proofs.tell.Reads as tell-reads
-use Rattle.finding.proofs.judgement_on.Reads as judgement-on-reads
 
--- src/lib.rt:272:9
 tell-requires : tie.Need-tell-requires
 tell-requires c κs = search needs
 
--- src/lib.rt:272:9
 returns : tie.Need-returns
 returns c = c .tell .ensures ∙ close-aside _ _ (c .before .if1 .taken)
 
--- src/lib.rt:276:9
 quiet-requires : tie.Need-quiet-requires
 quiet-requires c κs = search needs
 
--- src/lib.rt:276:9
 returns-2 : tie.Need-returns-2
 returns-2 c = c .quiet .ensures ∙ search (needs, close-short)
 
--- src/lib.rt:279:9
 quiet-requires-2 : tie.Need-quiet-requires-2
 quiet-requires-2 c κs = search needs
 
--- src/lib.rt:279:9
 returns-3 : tie.Need-returns-3
 returns-3 c = c .quiet2 .ensures ∙ search (needs, close-long)
 
--- src/lib.rt:286:9
 judgement-on-requires : tie.Need-judgement-on-requires
 judgement-on-requires c κs = search needs
 
--- src/lib.rt:291:5
 tell-requires-2 : tie.Need-tell-requires-2
 tell-requires-2 c κs = let a = c .before .before .before .before .before .before .before in (a .pre .0, rw (c .judgement-on .ensures) (counted-small _ _ (litres-whole _ (a .pre .1) (omega arith))))
 
--- src/lib.rt:261:1
 returns-4 : tie.Need-returns-4
 returns-4 c = c .tell2 .ensures ∙ rw (c .before .judgement-on .ensures) (search (needs, close-listed))
 

@@ -4,32 +4,22 @@ use Rattle.finding.specs.Finder as the
 use Rattle.finding.specs.declared.Open.{Open}
 use Rattle.finding.proofs.finish.Statement.{statement}
 use Rattle.finding.proofs.finish.Tie as tie
-use Rattle.finding.proofs.finish.Reads as reads
-use Rattle.finding.proofs.finish.Lts as lts
-use Rattle.finding.proofs.close.Reads as close-reads
-use Rattle.finding.proofs.quiet.Reads as quiet-reads
 
--- src/lib.rt:301:35
 enum-told : tie.Need-enum-told
 enum-told c = search needs
 
--- src/lib.rt:301:26
 quiet-requires : tie.Need-quiet-requires
 quiet-requires c κs = search needs
 
--- src/lib.rt:302:22
 enum-known-run : tie.Need-enum-known-run
 enum-known-run c = search needs
 
--- src/lib.rt:302:28
 close-requires : tie.Need-close-requires
 close-requires c κs = let pre = c .before .before .before .pre in (pre, rw (c .before .run .given .1) at (pre .run))
 
--- src/lib.rt:294:1
 returns : tie.Need-returns
 returns c = c .quiet .ensures ∙ ap (λ (o : Open). the.close (c .before .before .before .args .f) (the.closing o)) (sym (c .before .enum-told .given .1))
 
--- src/lib.rt:294:1
 returns-2 : tie.Need-returns-2
 returns-2 c = c .close .ensures ∙ ap (λ (o : Open). the.close (c .before .before .before .before .args .f) (the.closing o)) (sym (c .before .before .run .given .1))
 

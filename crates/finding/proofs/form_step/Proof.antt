@@ -4,83 +4,61 @@ use native.Mathlib.Omega.{arith}
 use Rattle.finding.proofs.Steps.{number-small, litres-small, form-long, form-space, form-no-space, form-low, form-high, form-number, form-litres}
 use Rattle.finding.proofs.form_step.Statement.{statement}
 use Rattle.finding.proofs.form_step.Tie as tie
-use Rattle.finding.proofs.form_step.Reads as reads
-use Rattle.finding.proofs.form_step.Lts as lts
-use Rattle.finding.proofs.other_form.Reads as other-form-reads
 
--- src/lib.rt:84:9
 other-form-requires : tie.Need-other-form-requires
 other-form-requires c κs = search needs
 
--- src/lib.rt:84:9
 returns : tie.Need-returns
 returns c = c .other-form .ensures ∙ search (needs, form-long)
 
--- src/lib.rt:92:13
 returns-2 : tie.Need-returns-2
 returns-2 c = search (needs, form-space)
 
--- src/lib.rt:98:9
 other-form-requires-2 : tie.Need-other-form-requires-2
 other-form-requires-2 c κs = search needs
 
--- src/lib.rt:98:9
 returns-3 : tie.Need-returns-3
 returns-3 c = c .other-form2 .ensures ∙ search (needs, form-no-space)
 
--- src/lib.rt:105:9
 other-form-requires-3 : tie.Need-other-form-requires-3
 other-form-requires-3 c κs = search needs
 
--- src/lib.rt:105:9
 returns-4 : tie.Need-returns-4
 returns-4 c = c .other-form3 .ensures ∙ search (needs, form-low)
 
--- src/lib.rt:112:9
 other-form-requires-4 : tie.Need-other-form-requires-4
 other-form-requires-4 c κs = search needs
 
--- src/lib.rt:112:9
 returns-5 : tie.Need-returns-5
 returns-5 c = c .other-form4 .ensures ∙ search (needs, form-high)
 
--- src/lib.rt:121:19
 add-t6 : tie.Need-add-t6
 add-t6 c = search needs
 
--- src/lib.rt:122:21
 mul-t7 : tie.Need-mul-t7
 mul-t7 c = omega (arith, number-small _ (c .before .before .before .before .before .before .before .before .before .before .pre) (omega arith))
 
--- src/lib.rt:122:37
 cast-t8 : tie.Need-cast-t8
 cast-t8 c = search needs
 
--- src/lib.rt:122:21
 add-t9 : tie.Need-add-t9
 add-t9 c = omega (arith, number-small _ (c .before .before .before .before .before .before .before .before .before .before .pre) (omega arith))
 
--- src/lib.rt:120:9
 returns-6 : tie.Need-returns-6
 returns-6 c = search (needs, form-number)
 
--- src/lib.rt:127:15
 add-t10 : tie.Need-add-t10
 add-t10 c = search needs
 
--- src/lib.rt:129:17
 mul-t11 : tie.Need-mul-t11
 mul-t11 c = omega (arith, litres-small _ (c .before .before .before .before .before .before .before .before .before .before .pre) (omega arith))
 
--- src/lib.rt:129:33
 cast-t12 : tie.Need-cast-t12
 cast-t12 c = search needs
 
--- src/lib.rt:129:17
 add-t13 : tie.Need-add-t13
 add-t13 c = omega (arith, litres-small _ (c .before .before .before .before .before .before .before .before .before .before .pre) (omega arith))
 
--- src/lib.rt:79:1
 returns-7 : tie.Need-returns-7
 returns-7 c = search (needs, form-litres)
 

@@ -7,11 +7,6 @@ use Rattle.finding.specs.declared.Told.the-variants as told
 use Rattle.finding.proofs.Walking.{follows-start, follows-then, follows-on, follows-quiet, walks-to-one, walks-to-end}
 use Rattle.finding.proofs.go_on.Statement.{statement}
 use Rattle.finding.proofs.go_on.Tie as tie
-use Rattle.finding.proofs.go_on.Reads as reads
-use Rattle.finding.proofs.go_on.Lts as lts
-use Rattle.finding.proofs.is_told.Reads as is-told-reads
-use Rattle.finding.proofs.settle.Reads as settle-reads
-use Rattle.finding.proofs.take.Reads as take-reads
 
 abbrev Inv-loop : tie.InvT-loop
 Inv-loop piece from at₀ search₀ at search = Follows piece from search₀ told.Nothing at search
@@ -19,35 +14,27 @@ Inv-loop piece from at₀ search₀ at search = Follows piece from search₀ tol
 abbrev μ-loop : tie.MeasureT-loop
 μ-loop piece from at₀ search₀ at search = length piece - at
 
--- src/lib.rt:636:5
 loop-holds : tie.Need-loop-holds Inv-loop μ-loop
 loop-holds c = search (needs, follows-start)
 
--- src/lib.rt:637:13
 settle-requires : tie.Need-settle-requires Inv-loop μ-loop
 settle-requires c κs = let l = c .before .loop in (l .inv .sound, l .inv .within)
 
--- src/lib.rt:641:13
 returns : tie.Need-returns Inv-loop μ-loop
 returns c = walks-to-end _ _ _ _ _ (follows-then _ _ _ _ _ _ _ _ (c .before .before .before .before .loop .inv) (c .before .before .settle .ensures)) (omega arith)
 
--- src/lib.rt:647:34
 shared-slice-read-take : tie.Need-shared-slice-read-take Inv-loop μ-loop
 shared-slice-read-take c = search needs
 
--- src/lib.rt:647:13
 take-requires : tie.Need-take-requires Inv-loop μ-loop
 take-requires c κs = c .before .before .before .settle .ensures .sound
 
--- src/lib.rt:650:14
 add-at : tie.Need-add-at Inv-loop μ-loop
 add-at c = search needs
 
--- src/lib.rt:652:12
 is-told-requires : tie.Need-is-told-requires Inv-loop μ-loop
 is-told-requires c κs = search needs
 
--- src/lib.rt:653:13
 returns-2 : tie.Need-returns-2 Inv-loop μ-loop
 returns-2 c =
     let w = (follows-then _ _ _ _ _ _ _ _ (c .before .before .before .before .before .before .before .before .before .loop .inv) (c .before .before .before .before .before .before .before .settle .ensures)) in
@@ -62,11 +49,9 @@ returns-2 c =
     (search needs)
     (omega (arith, w .onward))
 
--- src/lib.rt:636:5
 loop-less : tie.Need-loop-less Inv-loop μ-loop
 loop-less c = omega (arith, c .before .before .before .before .before .before .before .settle .ensures .onward)
 
--- src/lib.rt:636:5
 loop-again : tie.Need-loop-again Inv-loop μ-loop
 loop-again c =
     follows-quiet
@@ -79,7 +64,6 @@ loop-again c =
     (follows-on _ _ _ _ _ (follows-then _ _ _ _ _ _ _ _ (c .before .before .before .before .before .before .before .before .before .loop .inv) (c .before .before .before .before .before .before .before .settle .ensures)) _ (omega arith) (c .before .before .before .take .ensures))
     (search needs)
 
--- src/lib.rt:629:1
 returns-3 : tie.Need-returns-3 Inv-loop μ-loop
 returns-3 c = search (needs, walks-to-end)
 

@@ -2,19 +2,13 @@ use borrow.Author.Needs.{needs}
 use Rattle.finding.proofs.Steps.{grown-damaged, grown-good}
 use Rattle.finding.proofs.grown.Statement.{statement}
 use Rattle.finding.proofs.grown.Tie as tie
-use Rattle.finding.proofs.grown.Reads as reads
-use Rattle.finding.proofs.grown.Lts as lts
-use Rattle.finding.proofs.form_step.Reads as form-step-reads
 
--- src/lib.rt:163:9
 form-step-requires : tie.Need-form-step-requires
 form-step-requires c κs = search needs
 
--- src/lib.rt:165:9
 returns : tie.Need-returns
 returns c = search (needs, grown-damaged)
 
--- src/lib.rt:159:1
 returns-2 : tie.Need-returns-2
 returns-2 c = search (needs, grown-good)
 

@@ -3,44 +3,31 @@ use mathlib.Core.Path.{ap, _∙_}
 use Rattle.finding.proofs.Searching.{isFull, place-fits, pass-nothing, pass-one, pass-full}
 use Rattle.finding.proofs.pass.Statement.{statement}
 use Rattle.finding.proofs.pass.Tie as tie
-use Rattle.finding.proofs.pass.Reads as reads
-use Rattle.finding.proofs.pass.Lts as lts
-use Rattle.finding.proofs.advance.Reads as advance-reads
-use Rattle.finding.proofs.behind.Reads as behind-reads
 
--- src/lib.rt:419:9
 advance-requires : tie.Need-advance-requires
 advance-requires c κs = search needs
 
--- src/lib.rt:423:52
 enum-told : tie.Need-enum-told
 enum-told c = search needs
 
--- src/lib.rt:423:27
 behind-requires : tie.Need-behind-requires
 behind-requires c κs = let a = c .before .before .before .before .before in place-fits _ _ _ _ (c .before .before .before .advance .ensures) (a .pre .0) (a .pre .1) (ap isFull (c .enum-told .given .1))
 
--- src/lib.rt:424:20
 enum-known-found : tie.Need-enum-known-found
 enum-known-found c = search needs
 
--- src/lib.rt:424:30
 behind-requires-2 : tie.Need-behind-requires-2
 behind-requires-2 c κs = let a = c .before .before .before .before .before .before in place-fits _ _ _ _ (c .before .before .before .before .advance .ensures) (a .pre .0) (a .pre .1) (ap isFull (c .before .found .given .1))
 
--- src/lib.rt:427:19
 enum-told-2 : tie.Need-enum-told-2
 enum-told-2 c = search needs
 
--- src/lib.rt:413:1
 returns : tie.Need-returns
 returns c = c .behind .ensures ∙ search (needs, pass-nothing)
 
--- src/lib.rt:413:1
 returns-2 : tie.Need-returns-2
 returns-2 c = c .behind2 .ensures ∙ search (needs, pass-one)
 
--- src/lib.rt:413:1
 returns-3 : tie.Need-returns-3
 returns-3 c = search (needs, pass-full)
 

@@ -3,57 +3,40 @@ use native.Mathlib.Omega.{arith}
 use Rattle.finding.proofs.Stretching.{settles-outside, settles-within}
 use Rattle.finding.proofs.settle_between.Statement.{statement}
 use Rattle.finding.proofs.settle_between.Tie as tie
-use Rattle.finding.proofs.settle_between.Reads as reads
-use Rattle.finding.proofs.settle_between.Lts as lts
-use Rattle.finding.proofs.moved.Reads as moved-reads
-use Rattle.finding.proofs.stretch_end.Reads as stretch-end-reads
-use Rattle.finding.proofs.stretch_form.Reads as stretch-form-reads
 
--- src/lib.rt:576:8
 sub-if1 : tie.Need-sub-if1
 sub-if1 c = search needs
 
--- src/lib.rt:576:29
 sub-if1-2 : tie.Need-sub-if1-2
 sub-if1-2 c = search needs
 
--- src/lib.rt:577:9
 returns : tie.Need-returns
 returns c = search needs
 
--- src/lib.rt:585:17
 enum-told : tie.Need-enum-told
 enum-told c = search needs
 
--- src/lib.rt:585:17
 stretch-end-requires : tie.Need-stretch-end-requires
 stretch-end-requires c κs = search needs
 
--- src/lib.rt:586:22
 sub-moved : tie.Need-sub-moved
 sub-moved c = search needs
 
--- src/lib.rt:586:13
 moved-requires : tie.Need-moved-requires
 moved-requires c κs = search needs
 
--- src/lib.rt:588:22
 enum-known-run : tie.Need-enum-known-run
 enum-known-run c = search needs
 
--- src/lib.rt:590:17
 stretch-form-requires : tie.Need-stretch-form-requires
 stretch-form-requires c κs = let a = c .before .before .before .before .before .before .before .before in (a .pre .1 .1, rw (c .before .before .run .given .1) at (a .pre .0 .finder .run))
 
--- src/lib.rt:597:22
 sub-moved-2 : tie.Need-sub-moved-2
 sub-moved-2 c = search needs
 
--- src/lib.rt:597:13
 moved-requires-2 : tie.Need-moved-requires-2
 moved-requires-2 c κs = search needs
 
--- src/lib.rt:569:1
 returns-2 : tie.Need-returns-2
 returns-2 c =
     let a = c .before .before .before .before .before .before .before .before in
@@ -61,7 +44,6 @@ returns-2 c =
     rw (c .moved .ensures)
     (settles-outside _ _ _ _ (a .pre .0) (a .pre .1 .0) p (omega (arith, p .within, a .pre .0 .finder .passed)) (c .before .before .enum-told .given .1))
 
--- src/lib.rt:569:1
 returns-3 : tie.Need-returns-3
 returns-3 c =
     let a = c .before .before .before .before .before .before .before .before .before .before .before .before in

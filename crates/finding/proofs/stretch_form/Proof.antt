@@ -5,9 +5,6 @@ use Rattle.finding.specs.Stretches.{Formed}
 use Rattle.finding.proofs.Stretching.{formed-start, formed-more}
 use Rattle.finding.proofs.stretch_form.Statement.{statement}
 use Rattle.finding.proofs.stretch_form.Tie as tie
-use Rattle.finding.proofs.stretch_form.Reads as reads
-use Rattle.finding.proofs.stretch_form.Lts as lts
-use Rattle.finding.proofs.form_step.Reads as form-step-reads
 
 abbrev Inv-loop : tie.InvT-loop
 Inv-loop piece from at₀ form₀ at form = Formed piece from form₀ at form
@@ -15,43 +12,33 @@ Inv-loop piece from at₀ form₀ at form = Formed piece from form₀ at form
 abbrev μ-loop : tie.MeasureT-loop
 μ-loop piece from at₀ form₀ at form = length piece - at
 
--- src/lib.rt:523:5
 loop-holds : tie.Need-loop-holds Inv-loop μ-loop
 loop-holds c = search (needs, formed-start)
 
--- src/lib.rt:524:20
 shared-slice-read-byte : tie.Need-shared-slice-read-byte Inv-loop μ-loop
 shared-slice-read-byte c = search needs
 
--- src/lib.rt:526:13
 returns : tie.Need-returns Inv-loop μ-loop
 returns c = search needs
 
--- src/lib.rt:529:13
 returns-2 : tie.Need-returns-2 Inv-loop μ-loop
 returns-2 c = search needs
 
--- src/lib.rt:532:13
 returns-3 : tie.Need-returns-3 Inv-loop μ-loop
 returns-3 c = search needs
 
--- src/lib.rt:534:9
 form-step-requires : tie.Need-form-step-requires Inv-loop μ-loop
 form-step-requires c κs = search needs
 
--- src/lib.rt:535:9
 add-at : tie.Need-add-at Inv-loop μ-loop
 add-at c = search needs
 
--- src/lib.rt:523:5
 loop-less : tie.Need-loop-less Inv-loop μ-loop
 loop-less c = search needs
 
--- src/lib.rt:523:5
 loop-again : tie.Need-loop-again Inv-loop μ-loop
 loop-again c = search (needs, formed-more)
 
--- src/lib.rt:516:1
 returns-4 : tie.Need-returns-4 Inv-loop μ-loop
 returns-4 c = search needs
 

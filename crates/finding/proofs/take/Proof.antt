@@ -3,45 +3,31 @@ use mathlib.Core.Path.{_∙_}
 use Rattle.finding.proofs.Searching.{taken, taken-damaged}
 use Rattle.finding.proofs.take.Statement.{statement}
 use Rattle.finding.proofs.take.Tie as tie
-use Rattle.finding.proofs.take.Reads as reads
-use Rattle.finding.proofs.take.Lts as lts
-use Rattle.finding.proofs.after_mark.Reads as after-mark-reads
-use Rattle.finding.proofs.between_characters.Reads as between-characters-reads
-use Rattle.finding.proofs.pass.Reads as pass-reads
 
--- src/lib.rt:467:30
 enum-told : tie.Need-enum-told
 enum-told c = search needs
 
--- src/lib.rt:467:30
 between-characters-requires : tie.Need-between-characters-requires
 between-characters-requires c κs = search needs
 
--- src/lib.rt:468:27
 enum-told-2 : tie.Need-enum-told-2
 enum-told-2 c = search needs
 
--- src/lib.rt:468:27
 after-mark-requires : tie.Need-after-mark-requires
 after-mark-requires c κs = search needs
 
--- src/lib.rt:469:31
 enum-told-3 : tie.Need-enum-told-3
 enum-told-3 c = search needs
 
--- src/lib.rt:469:31
 pass-requires : tie.Need-pass-requires
 pass-requires c κs = search needs
 
--- src/lib.rt:461:1
 returns : tie.Need-returns
 returns c = c .between-characters .ensures ∙ taken _ _ _ (c .before .enum-told .given .1)
 
--- src/lib.rt:461:1
 returns-2 : tie.Need-returns-2
 returns-2 c = c .after-mark .ensures ∙ taken _ _ _ (c .before .enum-told2 .given .1)
 
--- src/lib.rt:461:1
 returns-3 : tie.Need-returns-3
 returns-3 c = c .pass .ensures ∙ taken-damaged _ _ (c .before .enum-told3 .given .1)
 

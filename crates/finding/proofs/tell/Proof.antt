@@ -1,58 +1,42 @@
 use borrow.Author.Needs.{needs}
-use mathlib.Core.Path.{ap, _∙_, sym}
+use mathlib.Core.Path.{ap}
 use Rattle.paper.specs.Confirmations.{counted}
 use Rattle.finding.proofs.tell.Statement.{statement}
 use Rattle.finding.proofs.tell.Tie as tie
-use Rattle.finding.proofs.tell.Reads as reads
-use Rattle.finding.proofs.tell.Lts as lts
-use Rattle.finding.proofs.tell_counted.Reads as tell-counted-reads
-use Rattle.finding.proofs.tell_uncounted.Reads as tell-uncounted-reads
 
--- src/lib.rt:253:27
 enum-known-judgement : tie.Need-enum-known-judgement
 enum-known-judgement c = search needs
 
--- src/lib.rt:253:33
 tell-counted-requires : tie.Need-tell-counted-requires
 tell-counted-requires c κs = let pre = c .before .before .before .pre in (pre .0, (ap counted (c .before .judgement .given .1), rw (c .before .judgement .given .1) at (pre .1)))
 
--- src/lib.rt:254:22
 enum-known-judgement-2 : tie.Need-enum-known-judgement-2
 enum-known-judgement-2 c = search needs
 
--- src/lib.rt:254:28
 tell-counted-requires-2 : tie.Need-tell-counted-requires-2
 tell-counted-requires-2 c κs = let pre = c .before .before .before .pre in (pre .0, (ap counted (c .before .judgement2 .given .1), rw (c .before .judgement2 .given .1) at (pre .1)))
 
--- src/lib.rt:255:33
 enum-told : tie.Need-enum-told
 enum-told c = search needs
 
--- src/lib.rt:255:33
 tell-uncounted-requires : tie.Need-tell-uncounted-requires
 tell-uncounted-requires c κs = search needs
 
--- src/lib.rt:256:27
 enum-told-2 : tie.Need-enum-told-2
 enum-told-2 c = search needs
 
--- src/lib.rt:256:27
 tell-uncounted-requires-2 : tie.Need-tell-uncounted-requires-2
 tell-uncounted-requires-2 c κs = search needs
 
--- src/lib.rt:245:1
 returns : tie.Need-returns
 returns c = search needs
 
--- src/lib.rt:245:1
 returns-2 : tie.Need-returns-2
 returns-2 c = search needs
 
--- src/lib.rt:245:1
 returns-3 : tie.Need-returns-3
 returns-3 c = search needs
 
--- src/lib.rt:245:1
 returns-4 : tie.Need-returns-4
 returns-4 c = search needs
 

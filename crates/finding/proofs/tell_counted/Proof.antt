@@ -2,22 +2,16 @@ use borrow.Author.Needs.{needs}
 use Rattle.finding.proofs.Steps.{told-counted}
 use Rattle.finding.proofs.tell_counted.Statement.{statement}
 use Rattle.finding.proofs.tell_counted.Tie as tie
-use Rattle.finding.proofs.tell_counted.Reads as reads
-use Rattle.finding.proofs.tell_counted.Lts as lts
 
--- src/lib.rt:215:17
 add-t5 : tie.Need-add-t5
 add-t5 c = search needs
 
--- src/lib.rt:218:22
 cast-t8 : tie.Need-cast-t8
 cast-t8 c = search needs
 
--- src/lib.rt:218:14
 add-t9 : tie.Need-add-t9
 add-t9 c = search needs
 
--- src/lib.rt:207:1
 returns : tie.Need-returns
 returns c = told-counted (c .before .before .before .args .f) _ _ (c .before .before .before .pre .1 .0)
 

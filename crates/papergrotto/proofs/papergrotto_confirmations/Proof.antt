@@ -4,36 +4,25 @@ use Rattle.telling.specs.Told.{listingTold}
 use borrow.Author.Needs.{needs}
 use Rattle.papergrotto.proofs.papergrotto_confirmations.Statement.{statement}
 use Rattle.papergrotto.proofs.papergrotto_confirmations.Tie as tie
-use Rattle.papergrotto.proofs.papergrotto_confirmations.Reads as reads
-use Rattle.papergrotto.proofs.papergrotto_confirmations.Lts as lts
-use Rattle.confirming.proofs.list.Reads as list-reads
-use Rattle.telling.proofs.tell_listing.Reads as tell-listing-reads
 
--- src/lib.rt:189:27
 list-requires : tie.Need-list-requires
 list-requires c κs = search needs
 
--- src/lib.rt:189:5
 tell-listing-requires : tie.Need-tell-listing-requires
 tell-listing-requires c κs = search needs
 
--- src/lib.rt:172:1
 same-length : tie.Need-same-length
 same-length c = search needs
 
--- src/lib.rt:172:1
 same-length-2 : tie.Need-same-length-2
 same-length-2 c = search needs
 
--- src/lib.rt:172:1
 same-length-3 : tie.Need-same-length-3
 same-length-3 c = search needs
 
--- src/lib.rt:172:1
 same-length-4 : tie.Need-same-length-4
 same-length-4 c = search needs
 
--- src/lib.rt:172:1
 returns : tie.Need-returns
 returns c =
     let listed = c .before .before .before .before .before .before .before .before .before .list .ensures .gives in
