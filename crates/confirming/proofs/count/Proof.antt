@@ -30,7 +30,10 @@ loop-less : tie.Need-loop-less Inv-loop μ-loop
 loop-less c = let w = c .before .before .before .go-on .ensures in omega (arith, w .further (omega arith), w .follows .within)
 
 loop-again : tie.Need-loop-again Inv-loop μ-loop
-loop-again c = let l = c .before .before .before .before .before .loop in (passes-on (l .inv .0) (c .before .before .before .go-on .ensures) (c .enum-told .given .1), l .inv .1)
+loop-again c =
+    let g = c .before .before .before in
+    let l = g .before .before .loop in
+    (passes-on (l .inv .0) (g .go-on .ensures) (c .enum-told .given .1), l .inv .1)
 
 enum-told-2 : tie.Need-enum-told-2 Inv-loop μ-loop
 enum-told-2 c = search needs
@@ -53,7 +56,10 @@ loop-less-2 : tie.Need-loop-less-2 Inv-loop μ-loop
 loop-less-2 c = let w = c .before .before .before .before .go-on .ensures in omega (arith, w .further (omega arith), w .follows .within)
 
 loop-again-2 : tie.Need-loop-again-2 Inv-loop μ-loop
-loop-again-2 c = let l = c .before .before .before .before .before .before .loop in (passes-one (l .inv .0) (c .before .before .before .before .go-on .ensures) _ (c .before .enum-told2 .given .1), omega arith)
+loop-again-2 c =
+    let g = c .before .before .before .before in
+    let l = g .before .before .loop in
+    (passes-one (l .inv .0) (g .go-on .ensures) _ (c .before .enum-told2 .given .1), omega arith)
 
 enum-told-3 : tie.Need-enum-told-3 Inv-loop μ-loop
 enum-told-3 c = search needs

@@ -25,13 +25,37 @@ enum-known-sum c = search needs
 
 put-entries-requires : tie.Need-put-entries-requires
 put-entries-requires c κs =
-    let l : LentList = record { places = c .before .before .before .before .before .before .before .before .before .before .before .before .before .before .before .before .args .places .now; numbers = c .before .before .before .before .before .before .before .before .before .before .before .before .before .before .before .before .args .numbers .now; litres = c .before .before .before .before .before .before .before .before .before .before .before .before .before .before .before .before .args .litres .now; judgements = c .before .before .before .before .before .before .before .before .before .before .before .before .before .before .before .before .args .judgements .now } in
-    has-places (c .before .before .before .before .before .before .before .before .before .before .before .before .before .before .before .before .args .stream .now) l (c .before .before .before .before .before .before .before .before .before .before .before .before .before .before .before .before .pre) _ _ (sym (c .before .before .before .before .before .sum .given .1) ∙ rw (c .before .before .before .before .before .before .before .before .smaller3 .ensures, c .before .before .before .before .before .before .before .before .before .before .smaller .ensures, c .before .before .before .before .before .before .before .before .before .smaller2 .ensures) at (c .before .before .before .before .before .before .before .count .ensures))
+    let m = c .before .before .before .before .before in
+    let a = m .before .before .before .before .before .before .before .before .before .before .before in
+    let l : LentList =
+        record {
+          places = a .args .places .now;
+          numbers = a .args .numbers .now;
+          litres = a .args .litres .now;
+          judgements = a .args .judgements .now;
+        } in
+    let counts = m .before .before in
+    let most = counts .before in
+    let counted =
+        rw (most .smaller3 .ensures, most .before .before .smaller .ensures, most .before .smaller2 .ensures) at (counts .count .ensures) in
+    has-places (a .args .stream .now) l (a .pre) _ _ (sym (m .sum .given .1) ∙ counted)
 
 returns : tie.Need-returns
 returns c =
-    let l : LentList = record { places = c .before .before .before .before .before .before .before .before .before .before .before .args .places .now; numbers = c .before .before .before .before .before .before .before .before .before .before .before .args .numbers .now; litres = c .before .before .before .before .before .before .before .before .before .before .before .args .litres .now; judgements = c .before .before .before .before .before .before .before .before .before .before .before .args .judgements .now } in
-    refuses-many (c .before .before .before .before .before .before .before .before .before .before .before .args .stream .now) l (c .before .before .before .before .before .before .before .before .before .before .before .pre) (sym (c .enum-told .given .1) ∙ rw (c .before .before .before .smaller3 .ensures, c .before .before .before .before .before .smaller .ensures, c .before .before .before .before .smaller2 .ensures) at (c .before .before .count .ensures))
+    let m = c in
+    let a = m .before .before .before .before .before .before .before .before .before .before .before in
+    let l : LentList =
+        record {
+          places = a .args .places .now;
+          numbers = a .args .numbers .now;
+          litres = a .args .litres .now;
+          judgements = a .args .judgements .now;
+        } in
+    let counts = m .before .before in
+    let most = counts .before in
+    let counted =
+        rw (most .smaller3 .ensures, most .before .before .smaller .ensures, most .before .smaller2 .ensures) at (counts .count .ensures) in
+    refuses-many (a .args .stream .now) l (a .pre) (sym (m .enum-told .given .1) ∙ counted)
 
 same-length : tie.Need-same-length
 same-length c = search needs
@@ -47,10 +71,23 @@ same-length-4 c = search needs
 
 returns-2 : tie.Need-returns-2
 returns-2 c =
-    let l : LentList = record { places = c .before .before .before .before .before .before .before .before .before .before .before .before .before .before .before .before .before .before .before .before .before .before .before .before .before .args .places .now; numbers = c .before .before .before .before .before .before .before .before .before .before .before .before .before .before .before .before .before .before .before .before .before .before .before .before .before .args .numbers .now; litres = c .before .before .before .before .before .before .before .before .before .before .before .before .before .before .before .before .before .before .before .before .before .before .before .before .before .args .litres .now; judgements = c .before .before .before .before .before .before .before .before .before .before .before .before .before .before .before .before .before .before .before .before .before .before .before .before .before .args .judgements .now } in
-    let e = c .before .before .before .before .before .before .before .before .put-entries .ensures in
+    let put = c .before .before .before .before .before .before .before .before in
+    let m = put .before .before .before .before .before .before in
+    let a = m .before .before .before .before .before .before .before .before .before .before .before in
+    let l : LentList =
+        record {
+          places = a .args .places .now;
+          numbers = a .args .numbers .now;
+          litres = a .args .litres .now;
+          judgements = a .args .judgements .now;
+        } in
+    let counts = m .before .before in
+    let most = counts .before in
+    let counted =
+        rw (most .smaller3 .ensures, most .before .before .smaller .ensures, most .before .smaller2 .ensures) at (counts .count .ensures) in
+    let e = put .put-entries .ensures in
     rw (e .0, e .1 .0, e .1 .1 .0, e .1 .1 .1 .0, e .1 .1 .1 .1)
-    (lists (c .before .before .before .before .before .before .before .before .before .before .before .before .before .before .before .before .before .before .before .before .before .before .before .before .before .args .stream .now) l (c .before .before .before .before .before .before .before .before .before .before .before .before .before .before .before .before .before .before .before .before .before .before .before .before .before .pre) _ _ (sym (c .before .before .before .before .before .before .before .before .before .before .before .before .before .before .sum .given .1) ∙ rw (c .before .before .before .before .before .before .before .before .before .before .before .before .before .before .before .before .before .smaller3 .ensures, c .before .before .before .before .before .before .before .before .before .before .before .before .before .before .before .before .before .before .before .smaller .ensures, c .before .before .before .before .before .before .before .before .before .before .before .before .before .before .before .before .before .before .smaller2 .ensures) at (c .before .before .before .before .before .before .before .before .before .before .before .before .before .before .before .before .count .ensures)))
+    (lists (a .args .stream .now) l (a .pre) _ _ (sym (m .sum .given .1) ∙ counted))
 
 pub list-whole-spec : {M : Type 1} → statement M
 list-whole-spec =

@@ -37,65 +37,119 @@ enum-known-told c = search needs
 
 mul-places : tie.Need-mul-places Inv-loop μ-loop
 mul-places c =
-    omega (arith, (room-there (c .before .before .before .before .before .before .loop .inv) (c .before .before .before .before .go-on .ensures) (c .before .before .before .before .before .before .before .before .before .before .before .before .before .pre) _ (c .before .told .given .1)) .in-places, c .before .before .before .before .before .before .loop .inv .fills-places .long, c .before .before .before .before .before .before .before .before .before .before .before .before .before .good)
+    let t = c .before in
+    let g = t .before .before .before in
+    let l = g .before .before in
+    let a = l .before .before .before .before .before .before .before in
+    let room = room-there (l .loop .inv) (g .go-on .ensures) (a .pre) _ (t .told .given .1) in
+    omega (arith, room .in-places, l .loop .inv .fills-places .long, a .good)
 
 slice-write-places : tie.Need-slice-write-places Inv-loop μ-loop
-slice-write-places c = (room-there (c .before .before .before .before .before .before .loop .inv) (c .before .before .before .before .go-on .ensures) (c .before .before .before .before .before .before .before .before .before .before .before .before .before .pre) _ (c .before .told .given .1)) .in-places
+slice-write-places c =
+    let t = c .before in
+    let g = t .before .before .before in
+    let l = g .before .before in
+    let a = l .before .before .before .before .before .before .before in
+    (room-there (l .loop .inv) (g .go-on .ensures) (a .pre) _ (t .told .given .1)) .in-places
 
 number-of-requires : tie.Need-number-of-requires Inv-loop μ-loop
 number-of-requires c κs = search needs
 
 mul-numbers : tie.Need-mul-numbers Inv-loop μ-loop
 mul-numbers c =
-    omega (arith, (room-there (c .before .before .before .before .before .before .before .loop .inv) (c .before .before .before .before .before .go-on .ensures) (c .before .before .before .before .before .before .before .before .before .before .before .before .before .before .pre) _ (c .before .before .told .given .1)) .in-numbers, c .before .before .before .before .before .before .before .loop .inv .fills-numbers .long, c .before .before .before .before .before .before .before .before .before .before .before .before .before .before .good)
+    let t = c .before .before in
+    let g = t .before .before .before in
+    let l = g .before .before in
+    let a = l .before .before .before .before .before .before .before in
+    let room = room-there (l .loop .inv) (g .go-on .ensures) (a .pre) _ (t .told .given .1) in
+    omega (arith, room .in-numbers, l .loop .inv .fills-numbers .long, a .good)
 
 slice-write-numbers : tie.Need-slice-write-numbers Inv-loop μ-loop
-slice-write-numbers c = (room-there (c .before .before .before .before .before .before .before .loop .inv) (c .before .before .before .before .before .go-on .ensures) (c .before .before .before .before .before .before .before .before .before .before .before .before .before .before .pre) _ (c .before .before .told .given .1)) .in-numbers
+slice-write-numbers c =
+    let t = c .before .before in
+    let g = t .before .before .before in
+    let l = g .before .before in
+    let a = l .before .before .before .before .before .before .before in
+    (room-there (l .loop .inv) (g .go-on .ensures) (a .pre) _ (t .told .given .1)) .in-numbers
 
 litres-of-requires : tie.Need-litres-of-requires Inv-loop μ-loop
 litres-of-requires c κs = search needs
 
 mul-litres : tie.Need-mul-litres Inv-loop μ-loop
 mul-litres c =
-    omega (arith, (room-there (c .before .before .before .before .before .before .before .before .loop .inv) (c .before .before .before .before .before .before .go-on .ensures) (c .before .before .before .before .before .before .before .before .before .before .before .before .before .before .before .pre) _ (c .before .before .before .told .given .1)) .in-litres, c .before .before .before .before .before .before .before .before .loop .inv .fills-litres .long, c .before .before .before .before .before .before .before .before .before .before .before .before .before .before .before .good)
+    let t = c .before .before .before in
+    let g = t .before .before .before in
+    let l = g .before .before in
+    let a = l .before .before .before .before .before .before .before in
+    let room = room-there (l .loop .inv) (g .go-on .ensures) (a .pre) _ (t .told .given .1) in
+    omega (arith, room .in-litres, l .loop .inv .fills-litres .long, a .good)
 
 slice-write-litres : tie.Need-slice-write-litres Inv-loop μ-loop
-slice-write-litres c = (room-there (c .before .before .before .before .before .before .before .before .loop .inv) (c .before .before .before .before .before .before .go-on .ensures) (c .before .before .before .before .before .before .before .before .before .before .before .before .before .before .before .pre) _ (c .before .before .before .told .given .1)) .in-litres
+slice-write-litres c =
+    let t = c .before .before .before in
+    let g = t .before .before .before in
+    let l = g .before .before in
+    let a = l .before .before .before .before .before .before .before in
+    (room-there (l .loop .inv) (g .go-on .ensures) (a .pre) _ (t .told .given .1)) .in-litres
 
 number-for-requires : tie.Need-number-for-requires Inv-loop μ-loop
 number-for-requires c κs = search needs
 
 slice-write-judgements : tie.Need-slice-write-judgements Inv-loop μ-loop
-slice-write-judgements c = (room-there (c .before .before .before .before .before .before .before .before .before .loop .inv) (c .before .before .before .before .before .before .before .go-on .ensures) (c .before .before .before .before .before .before .before .before .before .before .before .before .before .before .before .before .pre) _ (c .before .before .before .before .told .given .1)) .in-judgements
+slice-write-judgements c =
+    let t = c .before .before .before .before in
+    let g = t .before .before .before in
+    let l = g .before .before in
+    let a = l .before .before .before .before .before .before .before in
+    (room-there (l .loop .inv) (g .go-on .ensures) (a .pre) _ (t .told .given .1)) .in-judgements
 
 add-count : tie.Need-add-count Inv-loop μ-loop
-add-count c = omega (arith, (room-there (c .before .before .before .before .before .before .before .before .before .loop .inv) (c .before .before .before .before .before .before .before .go-on .ensures) (c .before .before .before .before .before .before .before .before .before .before .before .before .before .before .before .before .pre) _ (c .before .before .before .before .told .given .1)) .in-places, c .before .before .before .before .before .before .before .before .before .loop .inv .fills-places .long, c .before .before .before .before .before .before .before .before .before .before .before .before .before .before .before .before .good)
+add-count c =
+    let t = c .before .before .before .before in
+    let g = t .before .before .before in
+    let l = g .before .before in
+    let a = l .before .before .before .before .before .before .before in
+    let room = room-there (l .loop .inv) (g .go-on .ensures) (a .pre) _ (t .told .given .1) in
+    omega (arith, room .in-places, l .loop .inv .fills-places .long, a .good)
 
 loop-less-2 : tie.Need-loop-less-2 Inv-loop μ-loop
-loop-less-2 c = let w = c .before .before .before .before .before .before .before .go-on .ensures in omega (arith, w .further (c .before .before .before .before .before .before .before .before .loop-test .taken), w .follows .within)
+loop-less-2 c =
+    let g = c .before .before .before .before .before .before .before in
+    let w = g .go-on .ensures in
+    omega (arith, w .further (g .before .loop-test .taken), w .follows .within)
 
 loop-again-2 : tie.Need-loop-again-2 Inv-loop μ-loop
 loop-again-2 c =
+    let t = c .before .before .before .before in
+    let g = t .before .before .before in
     rw (c .before .before .number-of .ensures, c .before .litres-of .ensures, c .number-for .ensures)
-    (puts-one (c .before .before .before .before .before .before .before .before .before .loop .inv) (c .before .before .before .before .before .before .before .go-on .ensures) _ (c .before .before .before .before .told .given .1))
+    (puts-one (g .before .before .loop .inv) (g .go-on .ensures) _ (t .told .given .1))
 
 enum-told-2 : tie.Need-enum-told-2 Inv-loop μ-loop
 enum-told-2 c = search needs
 
 loop-less-3 : tie.Need-loop-less-3 Inv-loop μ-loop
-loop-less-3 c = absurd (never-broken (c .before .before .before .before .before .loop .inv) (c .before .before .before .go-on .ensures) (c .before .before .before .before .before .before .before .before .before .before .before .before .pre) _ (c .enum-told2 .given .1))
+loop-less-3 c =
+    let g = c .before .before .before in
+    absurd (never-broken (g .before .before .loop .inv) (g .go-on .ensures) (g .before .before .before .before .before .before .before .before .before .pre) _ (c .enum-told2 .given .1))
 
 loop-again-3 : tie.Need-loop-again-3 Inv-loop μ-loop
-loop-again-3 c = absurd (never-broken (c .before .before .before .before .before .loop .inv) (c .before .before .before .go-on .ensures) (c .before .before .before .before .before .before .before .before .before .before .before .before .pre) _ (c .enum-told2 .given .1))
+loop-again-3 c =
+    let g = c .before .before .before in
+    absurd (never-broken (g .before .before .loop .inv) (g .go-on .ensures) (g .before .before .before .before .before .before .before .before .before .pre) _ (c .enum-told2 .given .1))
 
 enum-told-3 : tie.Need-enum-told-3 Inv-loop μ-loop
 enum-told-3 c = search needs
 
 loop-less-4 : tie.Need-loop-less-4 Inv-loop μ-loop
-loop-less-4 c = absurd (never-full (c .before .before .before .before .before .loop .inv) (c .before .before .before .go-on .ensures) (c .before .before .before .before .before .before .before .before .before .before .before .before .pre) _ (c .enum-told3 .given .1))
+loop-less-4 c =
+    let g = c .before .before .before in
+    absurd (never-full (g .before .before .loop .inv) (g .go-on .ensures) (g .before .before .before .before .before .before .before .before .before .pre) _ (c .enum-told3 .given .1))
 
 loop-again-4 : tie.Need-loop-again-4 Inv-loop μ-loop
-loop-again-4 c = absurd (never-full (c .before .before .before .before .before .loop .inv) (c .before .before .before .go-on .ensures) (c .before .before .before .before .before .before .before .before .before .before .before .before .pre) _ (c .enum-told3 .given .1))
+loop-again-4 c =
+    let g = c .before .before .before in
+    absurd (never-full (g .before .before .loop .inv) (g .go-on .ensures) (g .before .before .before .before .before .before .before .before .before .pre) _ (c .enum-told3 .given .1))
 
 same-length : tie.Need-same-length Inv-loop μ-loop
 same-length c = search needs

@@ -37,7 +37,8 @@ is-told-requires c κs = search needs
 
 returns-2 : tie.Need-returns-2 Inv-loop μ-loop
 returns-2 c =
-    let w = (follows-then _ _ _ _ _ _ _ _ (c .before .before .before .before .before .before .before .before .before .loop .inv) (c .before .before .before .before .before .before .before .settle .ensures)) in
+    let s = c .before .before .before .before .before .before .before in
+    let w = follows-then _ _ _ _ _ _ _ _ (s .before .before .loop .inv) (s .settle .ensures) in
     walks-to-one
     _
     _
@@ -54,6 +55,8 @@ loop-less c = omega (arith, c .before .before .before .before .before .before .b
 
 loop-again : tie.Need-loop-again Inv-loop μ-loop
 loop-again c =
+    let s = c .before .before .before .before .before .before .before in
+    let w = follows-then _ _ _ _ _ _ _ _ (s .before .before .loop .inv) (s .settle .ensures) in
     follows-quiet
     _
     _
@@ -61,7 +64,7 @@ loop-again c =
     _
     _
     _
-    (follows-on _ _ _ _ _ (follows-then _ _ _ _ _ _ _ _ (c .before .before .before .before .before .before .before .before .before .loop .inv) (c .before .before .before .before .before .before .before .settle .ensures)) _ (omega arith) (c .before .before .before .take .ensures))
+    (follows-on _ _ _ _ _ w _ (omega arith) (c .before .before .before .take .ensures))
     (search needs)
 
 returns-3 : tie.Need-returns-3 Inv-loop μ-loop

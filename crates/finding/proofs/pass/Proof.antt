@@ -11,13 +11,19 @@ enum-told : tie.Need-enum-told
 enum-told c = search needs
 
 behind-requires : tie.Need-behind-requires
-behind-requires c κs = let a = c .before .before .before .before .before in place-fits _ _ _ _ (c .before .before .before .advance .ensures) (a .pre .0) (a .pre .1) (ap isFull (c .enum-told .given .1))
+behind-requires c κs =
+    let n = c .before .before .before in
+    let a = n .before .before in
+    place-fits _ _ _ _ (n .advance .ensures) (a .pre .0) (a .pre .1) (ap isFull (c .enum-told .given .1))
 
 enum-known-found : tie.Need-enum-known-found
 enum-known-found c = search needs
 
 behind-requires-2 : tie.Need-behind-requires-2
-behind-requires-2 c κs = let a = c .before .before .before .before .before .before in place-fits _ _ _ _ (c .before .before .before .before .advance .ensures) (a .pre .0) (a .pre .1) (ap isFull (c .before .found .given .1))
+behind-requires-2 c κs =
+    let n = c .before .before .before .before in
+    let a = n .before .before in
+    place-fits _ _ _ _ (n .advance .ensures) (a .pre .0) (a .pre .1) (ap isFull (c .before .found .given .1))
 
 enum-told-2 : tie.Need-enum-told-2
 enum-told-2 c = search needs
