@@ -1,4 +1,4 @@
-"""Wrong mains of the yield sheet's program: what wrong.py needs for it."""
+"""Wrong mains of the yield sheet's program, each with what its proof needs and the test that has to catch it; see wrong.py."""
 from wrong import Start, Wrong
 
 LIST = 'list(carried, &piece[..n], &mut out);'
@@ -14,7 +14,8 @@ BEGINS = [('sound = rw (c .before .before .beginning .ensures) (bounds .beginnin
            'sound = record { finder = rw (c .before .before .before .beginning .ensures) (bounds .beginning .finder); place = omega arith }')]
 BEGINS_AGAIN = [
     ('sound = search needs', 'sound = rw (c .before .before .beginning2 .ensures) (bounds .beginning)'),
-    ('returns-3 : ', 'beginning-requires-2 : tie.Need-beginning-requires-2 Inv-loop μ-loop\nbeginning-requires-2 c κs = search needs\n\nreturns-3 : '),
+    ('returns-3 : ', 'beginning-requires-2 : tie.Need-beginning-requires-2 Inv-loop μ-loop\nbeginning-requires-2 c κs = search needs\n\n'
+                     'returns-3 : '),
     ('    returns-3\n', '    beginning-requires-2\n    returns-3\n'),
 ]
 SUBTRACTS = [
@@ -36,7 +37,8 @@ WRONG = [
           BEGINS_AGAIN, 'sheet: dialogue on a pipe'),
     Wrong('an FF at the end of a piece is forgotten', 'carried = ' + LIST,
           'let next = ' + LIST + ' let search = next.search; let finder = search.finder; let place = search.place; '
-          'let part = finding::PartRead::Nothing; carried = Carried { search: Search { part, place, finder }, over: next.over, closed: next.closed };',
+          'let part = finding::PartRead::Nothing; let search = Search { part, place, finder }; '
+          'carried = Carried { search, over: next.over, closed: next.closed };',
           [], 'sheet: an FF at the end of a piece waits'),
     Wrong('the last byte of a piece is not handed over', 'carried = ' + LIST,
           'let most = n - 1; carried = ' + LIST.replace('..n', '..most'), SUBTRACTS, 'sheet: dialogue on a pipe'),

@@ -17,17 +17,17 @@ started = []        # what this test started, ended after it if need be
 
 
 def start(stdin=subprocess.PIPE, stdout=subprocess.PIPE, before=None):
-    process = subprocess.Popen(command, stdin=stdin, stdout=stdout, stderr=subprocess.PIPE, bufsize=0, preexec_fn=before)
+    process = subprocess.Popen(command, stdin=stdin, stdout=stdout, stderr=subprocess.PIPE, bufsize=0, preexec_fn=before,
+                               start_new_session=True)
     started.append(process)
     return process
 
 
 def end_all():
-    """Ends what a test left running: the processes that it started itself, one by one."""
+    """Ends what a test left running: the processes that it started itself, one by one, each with what it runs: papergrotto may be proving."""
     for process in started:
         if process.poll() is None:
-            process.send_signal(signal.SIGCONT)
-            process.kill()
+            os.killpg(process.pid, signal.SIGKILL)
         for stream in (process.stdin, process.stdout, process.stderr):
             if stream is not None and not stream.closed:
                 stream.close()

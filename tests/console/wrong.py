@@ -1,8 +1,8 @@
 """Wrong starts of a program, each of which a test of the console has to catch.
 
-No contract can say what is read and written, so a start that forgets what it has to carry from piece to piece of the input is proved like the right one,
-and only a run tells them apart. Here a copy of the repository has wrong starts beside the right one, all proved, and its program begins with the one
-that the number of its arguments says.
+No contract can say what is read and written, so a start that forgets what is to be carried between two pieces of the input is proved like the
+right one, and only a run tells them apart. Here a copy of the repository has wrong starts beside the right one, all proved, and its program begins
+with the one that the number of its arguments says.
 """
 import os
 import shutil

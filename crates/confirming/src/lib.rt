@@ -1,12 +1,12 @@
 // 02 n: confirmations, over a marked stream and a lent list.
 ghost use mathlib.Core.Path.{_≡_};
 ghost use mathlib.Core.List.{[], map};
-ghost use Prim.Native.Nat.{min};
 ghost use lib.ListN.{length};
 ghost use Rattle.paper.specs.Confirmations.{judgementNumber, numberOf, litresOf, said, placeIn, numberIn, litresIn, judgementIn};
 ghost use Rattle.paper.specs.Stream as paper;
 ghost use Rattle.confirming.specs.Counted.{countedIn, entriesIn, HasPlaces};
 ghost use Rattle.confirming.specs.Promise.{Promise};
+use arrays::least;
 use finding::Told;
 use paper::Entry;
 use paper::Judgement;
@@ -18,12 +18,6 @@ use stream::Scan;
 enum Counted {
     Entries(usize, usize),
     TooMany,
-}
-
-fn smaller(a: usize, b: usize) -> usize
-    ensures { λ r. ⌜ r ≡ min a b ⌝ }
-{
-    if a < b { a } else { b }
 }
 
 // Counts the entries of a stream of which nothing is broken, for a list of so many places.
@@ -148,9 +142,9 @@ fn list_whole(
         (record { answer = r; list = record { places = now (places .exit); numbers = now (numbers .exit);
             litres = now (litres .exit); judgements = now (judgements .exit) } }) ⌝ }
 {
-    let most = smaller(
-        smaller(places.len(), numbers.len()),
-        smaller(litres.len(), judgements.len()),
+    let most = least(
+        least(places.len(), numbers.len()),
+        least(litres.len(), judgements.len()),
     );
     match count(stream, most) {
         Counted::TooMany => Listing::Unlisted(Refusal::TooManyEntries),

@@ -5,14 +5,14 @@ use Rattle.confirming.proofs.Calls.{refuses-many, has-places, lists}
 use Rattle.confirming.proofs.list_whole.Statement.{statement}
 use Rattle.confirming.proofs.list_whole.Tie as tie
 
-smaller-requires : tie.Need-smaller-requires
-smaller-requires c κs = search needs
+least-requires : tie.Need-least-requires
+least-requires c κs = search needs
 
-smaller-requires-2 : tie.Need-smaller-requires-2
-smaller-requires-2 c κs = search needs
+least-requires-2 : tie.Need-least-requires-2
+least-requires-2 c κs = search needs
 
-smaller-requires-3 : tie.Need-smaller-requires-3
-smaller-requires-3 c κs = search needs
+least-requires-3 : tie.Need-least-requires-3
+least-requires-3 c κs = search needs
 
 count-requires : tie.Need-count-requires
 count-requires c κs = search needs
@@ -37,7 +37,7 @@ put-entries-requires c κs =
     let counts = m .before .before in
     let most = counts .before in
     let counted =
-        rw (most .smaller3 .ensures, most .before .before .smaller .ensures, most .before .smaller2 .ensures) at (counts .count .ensures) in
+        rw (most .least3 .ensures, most .before .before .least .ensures, most .before .least2 .ensures) at (counts .count .ensures) in
     has-places (a .args .stream .now) l (a .pre) _ _ (sym (m .sum .given .1) ∙ counted)
 
 returns : tie.Need-returns
@@ -54,7 +54,7 @@ returns c =
     let counts = m .before .before in
     let most = counts .before in
     let counted =
-        rw (most .smaller3 .ensures, most .before .before .smaller .ensures, most .before .smaller2 .ensures) at (counts .count .ensures) in
+        rw (most .least3 .ensures, most .before .before .least .ensures, most .before .least2 .ensures) at (counts .count .ensures) in
     refuses-many (a .args .stream .now) l (a .pre) (sym (m .enum-told .given .1) ∙ counted)
 
 same-length : tie.Need-same-length
@@ -84,7 +84,7 @@ returns-2 c =
     let counts = m .before .before in
     let most = counts .before in
     let counted =
-        rw (most .smaller3 .ensures, most .before .before .smaller .ensures, most .before .smaller2 .ensures) at (counts .count .ensures) in
+        rw (most .least3 .ensures, most .before .before .least .ensures, most .before .least2 .ensures) at (counts .count .ensures) in
     let e = put .put-entries .ensures in
     rw (e .0, e .1 .0, e .1 .1 .0, e .1 .1 .1 .0, e .1 .1 .1 .1)
     (lists (a .args .stream .now) l (a .pre) _ _ (sym (m .sum .given .1) ∙ counted))
@@ -93,9 +93,9 @@ pub list-whole-spec : {M : Type 1} → statement M
 list-whole-spec =
     tie.close
     (tie.spec
-    smaller-requires
-    smaller-requires-2
-    smaller-requires-3
+    least-requires
+    least-requires-2
+    least-requires-3
     count-requires
     enum-told
     enum-known-sum

@@ -1,5 +1,6 @@
 use borrow.Author.Needs.{needs}
 use mathlib.Core.Path.{_∙_}
+use native.Mathlib.Omega.{arith}
 use Rattle.finding.proofs.Steps.{beyond-places, beyond-litres, still-counted}
 use Rattle.finding.proofs.advance.Statement.{statement}
 use Rattle.finding.proofs.advance.Tie as tie
