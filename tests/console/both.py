@@ -134,26 +134,22 @@ CLOSED = 0, -signal.SIGPIPE, 128 + signal.SIGPIPE       # how it may end: with s
 
 def closed_output(data, first, ignored):
     """The reader closes after the first line, with much input pending."""
-    def test():
-        with tempfile.TemporaryFile() as given:
-            given.write(data)
-            given.seek(0)
-            process = start(stdin=given, before=ignore if ignored else None)
-            same(answer(process), first)
-            process.stdout.close()
-            quiet(*ended(process), CLOSED)
-    return test
+    with tempfile.TemporaryFile() as given:
+        given.write(data)
+        given.seek(0)
+        process = start(stdin=given, before=ignore if ignored else None)
+        same(answer(process), first)
+        process.stdout.close()
+        quiet(*ended(process), CLOSED)
 
 
 def closed_while_waiting(data, wanted, ignored):
     """The reader closes while the program waits for more; it ends though its input stays open."""
-    def test():
-        process = start(before=ignore if ignored else None)
-        ask(process, [(data, wanted)])
-        process.stdout.close()
-        say(process, data)
-        quiet(*ended(process), CLOSED)
-    return test
+    process = start(before=ignore if ignored else None)
+    ask(process, [(data, wanted)])
+    process.stdout.close()
+    say(process, data)
+    quiet(*ended(process), CLOSED)
 
 
 def reading_a_folder():

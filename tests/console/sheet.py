@@ -155,12 +155,10 @@ def broken_mark_ends_it():
 # ---- ends that close or break
 
 def closed_before_the_last_line(ignored):
-    def test():
-        process = start(before=both.ignore if ignored else None)
-        process.stdout.close()
-        process.stdin.close()
-        quiet(*ended(process), both.CLOSED)
-    return test
+    process = start(before=both.ignore if ignored else None)
+    process.stdout.close()
+    process.stdin.close()
+    quiet(*ended(process), both.CLOSED)
 
 
 def error_after_a_confirmation_and_a_half():
@@ -172,16 +170,14 @@ def error_after_a_confirmation_and_a_half():
 
 def constant_memory(*streams):
     """Behind each stream comes a confirmation, whose line tells that all was read."""
-    def test():
-        for stream in streams:
-            wanted = kit.reference('listing', given=GIVEN + stream + ONE)
-            same(both.constant_memory((GIVEN, len(LINES)), (stream + ONE, wanted.count(b'\n') - 1 - len(LINES))), wanted)
-    return test
+    for stream in streams:
+        wanted = kit.reference('listing', given=GIVEN + stream + ONE)
+        same(both.constant_memory((GIVEN, len(LINES)), (stream + ONE, wanted.count(b'\n') - 1 - len(LINES))), wanted)
 
 
-def confirmations():
+def constant_memory_for_confirmations():
     numbered = b''.join(b'\2%04d %d\3' % (number, number * number % 1000000) for number in range(10000))
-    return numbered * (20 * MEGABYTE // len(numbered) + 1)
+    constant_memory(numbered * (20 * MEGABYTE // len(numbered) + 1))
 
 
 TESTS = [('sheet: ' + name, test) for name, test in [
@@ -200,18 +196,18 @@ TESTS = [('sheet: ' + name, test) for name, test in [
     ('more lines than the output\'s buffer holds', full_buffers),
     ('ends of input', ends_of_input),
     ('a broken FF ends it at once, its input still open', broken_mark_ends_it),
-    ('closed output, much input pending', both.closed_output(ONE * 500000, b'0 accepted 0001 250', False)),
-    ('closed output, much input pending, SIGPIPE ignored', both.closed_output(ONE * 500000, b'0 accepted 0001 250', True)),
-    ('closed output, waiting for a confirmation', both.closed_while_waiting(ONE, b'0 accepted 0001 250', False)),
-    ('closed output, waiting for a confirmation, SIGPIPE ignored', both.closed_while_waiting(ONE, b'0 accepted 0001 250', True)),
-    ('closed output, before the last line', closed_before_the_last_line(False)),
-    ('closed output, before the last line, SIGPIPE ignored', closed_before_the_last_line(True)),
+    ('closed output, much input pending', lambda: both.closed_output(ONE * 500000, b'0 accepted 0001 250', False)),
+    ('closed output, much input pending, SIGPIPE ignored', lambda: both.closed_output(ONE * 500000, b'0 accepted 0001 250', True)),
+    ('closed output, waiting for a confirmation', lambda: both.closed_while_waiting(ONE, b'0 accepted 0001 250', False)),
+    ('closed output, waiting for a confirmation, SIGPIPE ignored', lambda: both.closed_while_waiting(ONE, b'0 accepted 0001 250', True)),
+    ('closed output, before the last line', lambda: closed_before_the_last_line(False)),
+    ('closed output, before the last line, SIGPIPE ignored', lambda: closed_before_the_last_line(True)),
     ('a folder as standard input', both.reading_a_folder),
     ('a read error after a confirmation and a half', error_after_a_confirmation_and_a_half),
     ('no standard input at all', both.no_input_at_all),
     ('output to a full device', lambda: both.output_to_a_full_device(GIVEN, ONE * 200000, b'', b'\xff\1')),
-    ('constant memory, 20 MB of confirmations', lambda: constant_memory(confirmations())()),
-    ('constant memory, 20 MB without a newline or an STX', constant_memory(b'x' * (20 * MEGABYTE), b'\xff\0\n' * (7 * MEGABYTE))),
-    ('constant memory, a confirmation of 20 MB', constant_memory(b'\2' + b'0' * (20 * MEGABYTE) + b'\3')),
+    ('constant memory, 20 MB of confirmations', constant_memory_for_confirmations),
+    ('constant memory, 20 MB without a newline or an STX', lambda: constant_memory(b'x' * (20 * MEGABYTE), b'\xff\0x' * (7 * MEGABYTE))),
+    ('constant memory, a confirmation of 20 MB', lambda: constant_memory(b'\2' + b'0' * (20 * MEGABYTE) + b'\3')),
 ]]
 TESTS.append(('sheet: wrong mains, which are proved, are caught', wrong.caught(mains.MAIN, dict(TESTS))))

@@ -46,23 +46,29 @@ def write(text, *path):
         file.write(text)
 
 
+def chooser(start, path):
+    """The program's main: start_1 for one argument, start_2 for two, and so on; the right one for none."""
+    choices = ''.join(f'{number + 1} => {path}start_{number}(), ' for number in range(1, len(start.wrong) + 1))      # its own name counts
+    return f'fn main() {{ match os::arg_count() {{ {choices}_ => {path}start_0(), }} }}\n'
+
+
 def add_wrong_starts(start, crates):
-    """start_0, the right one, start_1, start_2, ... in its place, each with its proof; start_1 for one argument, and so on, else the right one."""
+    """In the place of the right start, start_0, which is the same, and start_1, start_2, ..., each with its proof."""
     name, proofs = start.name, os.path.join(crates, start.crate, 'proofs')
     text, proof = (kit.content(f'crates/{start.crate}/{file}').decode() for file in (f'src/{start.source}', f'proofs/{name}/Proof.antt'))
-    before, right = text.split(f'fn {name}()')
-    text, choices, of = before.removesuffix('pub '), '', '' if start.crate == start.program else f'{start.crate}::'
+    before, _, right = text.partition(f'fn {name}() {{')
+    text = before.removesuffix('pub ')
     shutil.rmtree(os.path.join(proofs, name))
     for number, wrong in enumerate([None, *start.wrong]):
-        text += f'pub fn start_{number}()' + (edited(right, (wrong.old, wrong.new)) if wrong else right)
+        text += f'pub fn start_{number}() {{' + (edited(right, (wrong.old, wrong.new)) if wrong else right)
         proved = edited(proof, *start.searched, *wrong.needs) if wrong else proof
-        write(proved.replace(f'proofs.{name}.', f'proofs.start_{number}.').replace(f'{name}-spec', f'start-{number}-spec'),
-              proofs, f'start_{number}', 'Proof.antt')
-        choices += f'{number + 1} => {of}start_{number}(), ' if wrong else ''      # the program's own name counts
-    main = f'fn main() {{ match os::arg_count() {{ {choices}_ => {of}start_0(), }} }}\n'
-    write(text if of else text + main, crates, start.crate, 'src', start.source)
-    if of:
-        write(main, crates, start.program, 'src', 'main.rt')
+        proved = proved.replace(f'proofs.{name}.', f'proofs.start_{number}.').replace(f'{name}-spec', f'start-{number}-spec')
+        write(proved, proofs, f'start_{number}', 'Proof.antt')
+    if start.crate == start.program:
+        text += chooser(start, '')
+    else:
+        write(chooser(start, f'{start.crate}::'), crates, start.program, 'src', 'main.rt')
+    write(text, crates, start.crate, 'src', start.source)
 
 
 def linked(start, folder):

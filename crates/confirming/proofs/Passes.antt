@@ -234,8 +234,7 @@ module _ {stream p₀ n₀ l₀ j₀ p n l j : List ℕ} {search : Search} {at c
       × ((n ≡ front (map numberIn (entriesIn stream)) n₀)
       × ((l ≡ front (map litresIn (entriesIn stream)) l₀) × (j ≡ front (map judgementIn (entriesIn stream)) j₀))))
   all-put h end =
-      let same : outcome beginning stream .entries ≡ entriesIn stream = ap (λ (o : Outcome). o .entries) (all-there h) in
-      (
+      let same : outcome beginning stream .entries ≡ entriesIn stream = ap (λ (o : Outcome). o .entries) (all-there h) in (
         all-behind (i .passing) end ∙ ap length same,
         (
           filled (i .passing) end (i .fills-places) (rw same (h .in-places)) ∙ rw same,

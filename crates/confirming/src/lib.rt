@@ -139,8 +139,15 @@ fn list_whole(
     requires { ⌜ paper.readout (now stream) .rest ≡ [] ⌝ }
     ensures { λ r. ⌜ Promise (now (stream .entry))
         (record { places = now (places .entry); numbers = now (numbers .entry); litres = now (litres .entry); judgements = now (judgements .entry) })
-        (record { answer = r; list = record { places = now (places .exit); numbers = now (numbers .exit);
-            litres = now (litres .exit); judgements = now (judgements .exit) } }) ⌝ }
+        (record {
+          answer = r;
+          list = record {
+            places = now (places .exit);
+            numbers = now (numbers .exit);
+            litres = now (litres .exit);
+            judgements = now (judgements .exit);
+          };
+        }) ⌝ }
 {
     let most = least(
         least(places.len(), numbers.len()),
@@ -166,8 +173,15 @@ pub fn list(
 ) -> Listing
     ensures { λ r. ⌜ Promise (now (stream .entry))
         (record { places = now (places .entry); numbers = now (numbers .entry); litres = now (litres .entry); judgements = now (judgements .entry) })
-        (record { answer = r; list = record { places = now (places .exit); numbers = now (numbers .exit);
-            litres = now (litres .exit); judgements = now (judgements .exit) } }) ⌝ }
+        (record {
+          answer = r;
+          list = record {
+            places = now (places .exit);
+            numbers = now (numbers .exit);
+            litres = now (litres .exit);
+            judgements = now (judgements .exit);
+          };
+        }) ⌝ }
 {
     match stream::first_broken(stream) {
         Scan::Broken(place) => Listing::Unlisted(Refusal::BrokenStream(place)),

@@ -178,13 +178,25 @@ pub extern "C" fn papergrotto_confirmations(
     judgements: &mut [u8],
 ) -> Told
     ensures { λ r. ⌜ r ≡ listingTold (confirmations.confirm (now (stream .entry))
-        (record { places = now (places .entry); numbers = now (numbers .entry); litres = now (litres .entry);
-            judgements = now (judgements .entry) }) .answer) ⌝ }
-    ensures { λ _. ⌜ record { places = now (places .exit); numbers = now (numbers .exit); litres = now (litres .exit);
-            judgements = now (judgements .exit) }
+        (record {
+          places = now (places .entry);
+          numbers = now (numbers .entry);
+          litres = now (litres .entry);
+          judgements = now (judgements .entry);
+        }) .answer) ⌝ }
+    ensures { λ _. ⌜ record {
+      places = now (places .exit);
+      numbers = now (numbers .exit);
+      litres = now (litres .exit);
+      judgements = now (judgements .exit);
+    }
         ≡ confirmations.confirm (now (stream .entry))
-        (record { places = now (places .entry); numbers = now (numbers .entry); litres = now (litres .entry);
-            judgements = now (judgements .entry) }) .list ⌝ }
+        (record {
+          places = now (places .entry);
+          numbers = now (numbers .entry);
+          litres = now (litres .entry);
+          judgements = now (judgements .entry);
+        }) .list ⌝ }
 {
     telling::tell_listing(confirming::list(stream, places, numbers, litres, judgements))
 }

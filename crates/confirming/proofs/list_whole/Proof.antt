@@ -28,16 +28,16 @@ put-entries-requires c κs =
     let m = c .before .before .before .before .before in
     let a = m .before .before .before .before .before .before .before .before .before .before .before in
     let l : LentList =
-        record {
-          places = a .args .places .now;
-          numbers = a .args .numbers .now;
-          litres = a .args .litres .now;
-          judgements = a .args .judgements .now;
-        } in
+    record {
+      places = a .args .places .now;
+      numbers = a .args .numbers .now;
+      litres = a .args .litres .now;
+      judgements = a .args .judgements .now;
+    } in
     let counts = m .before .before in
     let most = counts .before in
     let counted =
-        rw (most .least3 .ensures, most .before .before .least .ensures, most .before .least2 .ensures) at (counts .count .ensures) in
+    rw (most .least3 .ensures, most .before .before .least .ensures, most .before .least2 .ensures) at (counts .count .ensures) in
     has-places (a .args .stream .now) l (a .pre) _ _ (sym (m .sum .given .1) ∙ counted)
 
 returns : tie.Need-returns
@@ -45,16 +45,16 @@ returns c =
     let m = c in
     let a = m .before .before .before .before .before .before .before .before .before .before .before in
     let l : LentList =
-        record {
-          places = a .args .places .now;
-          numbers = a .args .numbers .now;
-          litres = a .args .litres .now;
-          judgements = a .args .judgements .now;
-        } in
+    record {
+      places = a .args .places .now;
+      numbers = a .args .numbers .now;
+      litres = a .args .litres .now;
+      judgements = a .args .judgements .now;
+    } in
     let counts = m .before .before in
     let most = counts .before in
     let counted =
-        rw (most .least3 .ensures, most .before .before .least .ensures, most .before .least2 .ensures) at (counts .count .ensures) in
+    rw (most .least3 .ensures, most .before .before .least .ensures, most .before .least2 .ensures) at (counts .count .ensures) in
     refuses-many (a .args .stream .now) l (a .pre) (sym (m .enum-told .given .1) ∙ counted)
 
 same-length : tie.Need-same-length
@@ -75,16 +75,16 @@ returns-2 c =
     let m = put .before .before .before .before .before .before in
     let a = m .before .before .before .before .before .before .before .before .before .before .before in
     let l : LentList =
-        record {
-          places = a .args .places .now;
-          numbers = a .args .numbers .now;
-          litres = a .args .litres .now;
-          judgements = a .args .judgements .now;
-        } in
+    record {
+      places = a .args .places .now;
+      numbers = a .args .numbers .now;
+      litres = a .args .litres .now;
+      judgements = a .args .judgements .now;
+    } in
     let counts = m .before .before in
     let most = counts .before in
     let counted =
-        rw (most .least3 .ensures, most .before .before .least .ensures, most .before .least2 .ensures) at (counts .count .ensures) in
+    rw (most .least3 .ensures, most .before .before .least .ensures, most .before .least2 .ensures) at (counts .count .ensures) in
     let e = put .put-entries .ensures in
     rw (e .0, e .1 .0, e .1 .1 .0, e .1 .1 .1 .0, e .1 .1 .1 .1)
     (lists (a .args .stream .now) l (a .pre) _ _ (sym (m .sum .given .1) ∙ counted))
