@@ -41,7 +41,7 @@ WRONG = [
           'carried = Carried { search, over: next.over, closed: next.closed };',
           [], 'sheet: an FF at the end of a piece waits'),
     Wrong('the last byte of a piece is not handed over', 'carried = ' + LIST,
-          'let most = n - 1; carried = ' + LIST.replace('..n', '..most'), SUBTRACTS, 'sheet: dialogue on a pipe'),
+          'let most = n - 1; carried = ' + LIST.replace('..n', '..most'), SUBTRACTS, 'sheet: ends of input'),
     Wrong('only a thousand pieces are read', 'turns = u64::MAX;', 'turns: u64 = 1000;', [], 'sheet: a random stream in pieces of 7'),
     Wrong('there is no last line', 'close(carried, &mut out);', '', NO_LAST_LINE, 'sheet: dialogue on a pipe'),
     Wrong('the last line is written where the input failed too', 'if got.failed {', 'if carried.over {',

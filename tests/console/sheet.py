@@ -17,7 +17,7 @@ GIVEN, LISTED = (kit.content(f'crates/confirmations/{name}') for name in ('stdin
 *LINES, LAST = LISTED.splitlines(keepends=True)
 # the user's case, cut behind each confirmation that is listed; that of number 12 is of another form
 CASE = list(zip(re.findall(b'(?:\x0212 3\3)?[^\3]*\3', GIVEN), (line[:-1] for line in LINES), strict=True))
-SEED, BROKEN = 101, range(105, 125, 5)      # none of those that tests/reference begins with
+SEED, BROKEN = 101, range(105, 135, 5)      # none of those that tests/reference begins with; four of six are broken long before their end
 ONE = b'\x020001 250\3'                     # ten bytes, and as many characters
 
 
@@ -102,7 +102,7 @@ def large_file():
 
 def broken_streams():
     for seed in BROKEN:
-        stream, listed = generated(seed, 300000)
+        stream, listed = generated(seed, 1000000)
         assert re.search(rb'^refused 8 \d+\n\Z', listed, re.M), f'the reference does not refuse the stream of seed {seed}'
         written, said, status = both.from_a_file(stream)
         quiet(said, status)
