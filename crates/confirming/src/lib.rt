@@ -86,7 +86,8 @@ fn number_for(judgement: Judgement) -> u8
     }
 }
 
-// Puts all entries of a stream into the fronts of four columns; answers how many.
+// Puts all entries of a stream into the fronts of four columns; answers how many. Neither a broken FF nor a full count comes: nothing is broken, and
+// all can be counted.
 fn put_entries(
     stream: &[u8],
     places: &mut [usize],
@@ -120,7 +121,6 @@ fn put_entries(
                 judgements[count] = number_for(judgement);
                 count += 1;
             }
-            // neither comes: nothing is broken, and all can be counted
             Told::Broken(_) => {}
             Told::Full(_) => {}
         }
