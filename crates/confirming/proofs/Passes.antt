@@ -23,7 +23,7 @@ use Rattle.finding.specs.declared.Told.the-variants as told
 use Rattle.finding.specs.declared.Next.{Next}
 use Rattle.finding.proofs.Searching.{bounds}
 use Rattle.finding.proofs.WholeStreams.{whole-streams}
-use Rattle.confirming.specs.Counted.{countedIn, entriesIn, Room, HasPlaces}
+use Rattle.confirming.specs.Counted.{countedIn, entriesIn, HasPlaces}
 use Rattle.confirming.specs.declared.Counted.the-variants.{Entries, TooMany}
 
 -- where a pass stands: what is left comes to the same end, and so many entries are behind it
@@ -151,6 +151,13 @@ all-there {s} h = by (whole-streams s (h .whole)) (h .counts)
         → o ≡ record { entries = entriesIn s; ending = ended (sum (readout s .characters)) }
     by (counted e) f = refl
     by (uncounted e es place) f = absurd (true≢false (sym f ∙ e))
+
+-- there is one more place in all four columns
+pub record Room (at : ℕ) (places numbers litres judgements : List ℕ) : Type 0 where
+  pub in-places : at < length places
+  pub in-numbers : at < length numbers
+  pub in-litres : at < length litres
+  pub in-judgements : at < length judgements
 
 -- all four columns fill
 pub record Putting (stream places₀ numbers₀ litres₀ judgements₀ places numbers litres judgements : List ℕ) (search : Search) (at count : ℕ) : Type 0 where

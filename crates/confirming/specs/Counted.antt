@@ -2,7 +2,7 @@
 use mathlib.Core.Path.{_≡_}
 use mathlib.Core.Bool.{true, not, _||_}
 use mathlib.Core.List.{List, []}
-use Prim.Native.Nat.{ℕ, _≤_, _<_}
+use Prim.Native.Nat.{ℕ, _≤_}
 use lib.Dec.{ltb}
 use lib.ListN.{length}
 use Rattle.paper.specs.Choice.{if_then_else_}
@@ -16,17 +16,10 @@ use Rattle.confirming.specs.declared.Counted.the-variants.{Entries, TooM
 unfoldable pub countedIn : List Character → (most : ℕ) → Counted
 countedIn cs most = if ltb most (length (entries cs)) || not (countable cs) then TooMany else Entries (length (entries cs)) (sum cs)
 
--- the second puts each at its place of all four columns
-pub record Room (at : ℕ) (places numbers litres judgements : List ℕ) : Type 0 where
-  pub in-places : at < length places
-  pub in-numbers : at < length numbers
-  pub in-litres : at < length litres
-  pub in-judgements : at < length judgements
-
 abbrev pub entriesIn : List ℕ → List Entry
 entriesIn s = entries (readout s .characters)
 
--- all of it can be counted, and there is a place for each
+-- the second puts each at its place of all four columns: all of it can be counted, and there is a place for each
 pub record HasPlaces (s places numbers litres judgements : List ℕ) : Type 0 where
   pub whole : readout s .rest ≡ []
   pub counts : countable (readout s .characters) ≡ true

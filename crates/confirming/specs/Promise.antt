@@ -5,6 +5,10 @@ use Prim.Native.Nat.{ℕ}
 use Rattle.paper.specs.Numbers.{listingNumbers}
 use Rattle.paper.specs.Confirmations.{LentList, Confirmed, confirm}
 
+-- the lent list, by its four columns
+abbrev pub columns : (places numbers litres judgements : List ℕ) → LentList
+columns p n l j = record { places = p; numbers = n; litres = l; judgements = j }
+
 -- The answer and the list afterwards are those of the paper's call. So the answer's numbers are the paper's.
 pub record Promise (s : List ℕ) (l : LentList) (r : Confirmed) : Type 0 where
   pub gives : r ≡ confirm s l

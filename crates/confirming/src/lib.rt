@@ -5,10 +5,9 @@ ghost use lib.ListN.{length};
 ghost use Rattle.paper.specs.Confirmations.{judgementNumber, numberOf, litresOf, said, placeIn, numberIn, litresIn, judgementIn};
 ghost use Rattle.paper.specs.Stream as paper;
 ghost use Rattle.confirming.specs.Counted.{countedIn, entriesIn, HasPlaces};
-ghost use Rattle.confirming.specs.Promise.{Promise};
+ghost use Rattle.confirming.specs.Promise.{columns, Promise};
 use arrays::least;
 use finding::Told;
-use paper::Entry;
 use paper::Judgement;
 use paper::Listing;
 use paper::Refusal;
@@ -138,16 +137,8 @@ fn list_whole(
 ) -> Listing
     requires { ⌜ paper.readout (now stream) .rest ≡ [] ⌝ }
     ensures { λ r. ⌜ Promise (now (stream .entry))
-        (record { places = now (places .entry); numbers = now (numbers .entry); litres = now (litres .entry); judgements = now (judgements .entry) })
-        (record {
-          answer = r;
-          list = record {
-            places = now (places .exit);
-            numbers = now (numbers .exit);
-            litres = now (litres .exit);
-            judgements = now (judgements .exit);
-          };
-        }) ⌝ }
+        (columns (now (places .entry)) (now (numbers .entry)) (now (litres .entry)) (now (judgements .entry)))
+        (record { answer = r; list = columns (now (places .exit)) (now (numbers .exit)) (now (litres .exit)) (now (judgements .exit)) }) ⌝ }
 {
     let most = least(
         least(places.len(), numbers.len()),
@@ -172,16 +163,8 @@ pub fn list(
     judgements: &mut [u8],
 ) -> Listing
     ensures { λ r. ⌜ Promise (now (stream .entry))
-        (record { places = now (places .entry); numbers = now (numbers .entry); litres = now (litres .entry); judgements = now (judgements .entry) })
-        (record {
-          answer = r;
-          list = record {
-            places = now (places .exit);
-            numbers = now (numbers .exit);
-            litres = now (litres .exit);
-            judgements = now (judgements .exit);
-          };
-        }) ⌝ }
+        (columns (now (places .entry)) (now (numbers .entry)) (now (litres .entry)) (now (judgements .entry)))
+        (record { answer = r; list = columns (now (places .exit)) (now (numbers .exit)) (now (litres .exit)) (now (judgements .exit)) }) ⌝ }
 {
     match stream::first_broken(stream) {
         Scan::Broken(place) => Listing::Unlisted(Refusal::BrokenStream(place)),

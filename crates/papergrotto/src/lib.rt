@@ -11,6 +11,7 @@ ghost use Rattle.paper.specs.Confirmations as confirmations;
 ghost use Rattle.channel.specs.Held.{Sound, channelOf};
 ghost use Rattle.channel.specs.Promise.{atThreshold};
 ghost use Rattle.telling.specs.Told.{told, readingTold, listingTold};
+ghost use Rattle.confirming.specs.Promise.{columns};
 ghost use Rattle.papergrotto.specs.Promise.{Promise};
 use channel::Answered;
 use channel::Channel;
@@ -178,25 +179,10 @@ pub extern "C" fn papergrotto_confirmations(
     judgements: &mut [u8],
 ) -> Told
     ensures { λ r. ⌜ r ≡ listingTold (confirmations.confirm (now (stream .entry))
-        (record {
-          places = now (places .entry);
-          numbers = now (numbers .entry);
-          litres = now (litres .entry);
-          judgements = now (judgements .entry);
-        }) .answer) ⌝ }
-    ensures { λ _. ⌜ record {
-      places = now (places .exit);
-      numbers = now (numbers .exit);
-      litres = now (litres .exit);
-      judgements = now (judgements .exit);
-    }
+        (columns (now (places .entry)) (now (numbers .entry)) (now (litres .entry)) (now (judgements .entry))) .answer) ⌝ }
+    ensures { λ _. ⌜ columns (now (places .exit)) (now (numbers .exit)) (now (litres .exit)) (now (judgements .exit))
         ≡ confirmations.confirm (now (stream .entry))
-        (record {
-          places = now (places .entry);
-          numbers = now (numbers .entry);
-          litres = now (litres .entry);
-          judgements = now (judgements .entry);
-        }) .list ⌝ }
+        (columns (now (places .entry)) (now (numbers .entry)) (now (litres .entry)) (now (judgements .entry))) .list ⌝ }
 {
     telling::tell_listing(confirming::list(stream, places, numbers, litres, judgements))
 }

@@ -1,6 +1,6 @@
 use borrow.Author.Needs.{needs}
 use mathlib.Core.Path.{sym, _∙_}
-use Rattle.paper.specs.Confirmations.{LentList}
+use Rattle.confirming.specs.Promise.{columns}
 use Rattle.confirming.proofs.Calls.{refuses-many, has-places, lists}
 use Rattle.confirming.proofs.list_whole.Statement.{statement}
 use Rattle.confirming.proofs.list_whole.Tie as tie
@@ -27,13 +27,7 @@ put-entries-requires : tie.Need-put-entries-requires
 put-entries-requires c κs =
     let m = c .before .before .before .before .before in
     let a = m .before .before .before .before .before .before .before .before .before .before .before in
-    let l : LentList =
-    record {
-      places = a .args .places .now;
-      numbers = a .args .numbers .now;
-      litres = a .args .litres .now;
-      judgements = a .args .judgements .now;
-    } in
+    let l = columns (a .args .places .now) (a .args .numbers .now) (a .args .litres .now) (a .args .judgements .now) in
     let counts = m .before .before in
     let most = counts .before in
     let counted =
@@ -44,13 +38,7 @@ returns : tie.Need-returns
 returns c =
     let m = c in
     let a = m .before .before .before .before .before .before .before .before .before .before .before in
-    let l : LentList =
-    record {
-      places = a .args .places .now;
-      numbers = a .args .numbers .now;
-      litres = a .args .litres .now;
-      judgements = a .args .judgements .now;
-    } in
+    let l = columns (a .args .places .now) (a .args .numbers .now) (a .args .litres .now) (a .args .judgements .now) in
     let counts = m .before .before in
     let most = counts .before in
     let counted =
@@ -74,13 +62,7 @@ returns-2 c =
     let put = c .before .before .before .before .before .before .before .before in
     let m = put .before .before .before .before .before .before in
     let a = m .before .before .before .before .before .before .before .before .before .before .before in
-    let l : LentList =
-    record {
-      places = a .args .places .now;
-      numbers = a .args .numbers .now;
-      litres = a .args .litres .now;
-      judgements = a .args .judgements .now;
-    } in
+    let l = columns (a .args .places .now) (a .args .numbers .now) (a .args .litres .now) (a .args .judgements .now) in
     let counts = m .before .before in
     let most = counts .before in
     let counted =
