@@ -1,6 +1,6 @@
 -- Request n's cases, by computation over the definitions.
 use mathlib.Core.Path.{refl}
-use Rattle.paper.specs.Confirmations.{digit, fits, confirmationOf, mark, next, judgementOn, furthest, countable, confirm}
+use Rattle.paper.specs.Confirmations.{digit, fits, confirmationOf, mark, next, judgementOn, countable, confirm}
 use Rattle.paper.specs.Yield.{decimal, words, judgementWords, lineOf, litresLine, brokenLine, fullLine, yieldSheet}
 use Rattle.paper.specs.Channel.{noRoom}
 use Rattle.paper.specs.Card.{step}
@@ -13,11 +13,11 @@ unfolding digit fits confirmationOf mark next judgementOn
 listed = tt
 
 confirmed : Unit {0}
-unfolding listed furthest countable confirm
+unfolding listed countable confirm
 confirmed = tt
 
 printed : Unit {0}
-unfolding listed furthest countable decimal words judgementWords lineOf litresLine brokenLine fullLine yieldSheet
+unfolding listed countable decimal words judgementWords lineOf litresLine brokenLine fullLine yieldSheet
 printed = tt
 
 pub judged-cases : JudgedCases

@@ -140,7 +140,6 @@ rest-kept f c s = kept-by (mark c) f c s
 
 kept-or-full : (f : Finder) (n : Step) → SoundFinder f → SoundRest (n .finder) → (passed sum : Bool)
     → leb (n .finder .passed) furthest ≡ passed → leb (n .finder .sum) furthest ≡ sum → SoundFinder ((if passed && sum then n else full f) .finder)
-unfolding furthest
 kept-or-full f n s r true true p q =
     record { run = r .run; last = r .last; passed = leb-true (n .finder .passed) furthest p; sum = leb-true (n .finder .sum) furthest q }
 kept-or-full f n s r true false p q = s
@@ -148,7 +147,16 @@ kept-or-full f n s r false t p q = s
 
 pub advance-kept : (f : Finder) (c : Character) → SoundFinder f → SoundFinder (advance f c .finder)
 unfolding advance counts
-advance-kept f c s = kept-or-full f (step f c) s (rest-kept f c s) (leb _ furthest) (leb _ furthest) refl refl
+advance-kept f c s =
+    kept-or-full
+    f
+    (step f c)
+    s
+    (rest-kept f c s)
+    (leb (step f c .finder .passed) furthest)
+    (leb (step f c .finder .sum) furthest)
+    refl
+    refl
 
 pub fresh : SoundFinder beginning
 fresh = record { run = tt; last = tt; passed = omega arith; sum = omega arith }

@@ -44,13 +44,12 @@ isFull (found.One e) = false
 isFull found.Full = true
 
 took-by : (f : Finder) (n : Step) (t u : Bool) → leb (n .finder .passed) furthest ≡ t
-    → isFull ((if t && u then n else full f) .found) ≡ false → ((if t && u then n else full f) ≡ n) × (n .finder .passed ≤ 6148914691236517205)
-unfolding furthest
-took-by f n true true e h = (refl, leb-true (n .finder .passed) 6148914691236517205 e)
+    → isFull ((if t && u then n else full f) .found) ≡ false → ((if t && u then n else full f) ≡ n) × (n .finder .passed ≤ furthest)
+took-by f n true true e h = (refl, leb-true (n .finder .passed) furthest e)
 took-by f n true false e h = let z : _≡_ {A = ℕ} 0 1 = cc in absurd (omega arith)
 took-by f n false u e h = let z : _≡_ {A = ℕ} 0 1 = cc in absurd (omega arith)
 
-pub took : (f : Finder) (c : Character) → isFull (advance f c .found) ≡ false → (advance f c ≡ step f c) × (step f c .finder .passed ≤ 6148914691236517205)
+pub took : (f : Finder) (c : Character) → isFull (advance f c .found) ≡ false → (advance f c ≡ step f c) × (step f c .finder .passed ≤ furthest)
 unfolding advance counts
 took f c h = took-by f (step f c) (leb (step f c .finder .passed) furthest) (leb (step f c .finder .sum) furthest) refl h
 

@@ -164,14 +164,14 @@ module _ (f : Finder) (d : Bool) (b : ℕ) where
 -- WHERE IT STILL COUNTS
 
 module _ (f : Finder) (c : Character) (n : Step) (is : n ≡ step f c) where
-  pub beyond-places : 6148914691236517205 < n .finder .passed → full f ≡ advance f c
-  unfolding advance counts furthest
-  beyond-places h = rw (← is, lt-leb (n .finder .passed) 6148914691236517205 h)
+  pub beyond-places : furthest < n .finder .passed → full f ≡ advance f c
+  unfolding advance counts
+  beyond-places h = rw (← is, lt-leb (n .finder .passed) furthest h)
 
-  pub beyond-litres : n .finder .passed ≤ 6148914691236517205 → 6148914691236517205 < n .finder .sum → full f ≡ advance f c
-  unfolding advance counts furthest
-  beyond-litres p h = rw (← is, le-leb (n .finder .passed) 6148914691236517205 p, lt-leb (n .finder .sum) 6148914691236517205 h)
+  pub beyond-litres : n .finder .passed ≤ furthest → furthest < n .finder .sum → full f ≡ advance f c
+  unfolding advance counts
+  beyond-litres p h = rw (← is, le-leb (n .finder .passed) furthest p, lt-leb (n .finder .sum) furthest h)
 
-  pub still-counted : n .finder .passed ≤ 6148914691236517205 → n .finder .sum ≤ 6148914691236517205 → n ≡ advance f c
-  unfolding advance counts furthest
-  still-counted p h = rw (← is, le-leb (n .finder .passed) 6148914691236517205 p, le-leb (n .finder .sum) 6148914691236517205 h)
+  pub still-counted : n .finder .passed ≤ furthest → n .finder .sum ≤ furthest → n ≡ advance f c
+  unfolding advance counts
+  still-counted p h = rw (← is, le-leb (n .finder .passed) furthest p, le-leb (n .finder .sum) furthest h)

@@ -71,12 +71,12 @@ step-plain : (f : Finder) (b : ℕ) → Plain b → step f (good b) ≡ quiet f 
 unfolding step
 step-plain f b p = rw (plain-inner b p)
 
-advance-plain : (f : Finder) (b : ℕ) → Plain b → f .passed + 1 ≤ 6148914691236517205 → f .sum ≤ 6148914691236517205
+advance-plain : (f : Finder) (b : ℕ) → Plain b → f .passed + 1 ≤ furthest → f .sum ≤ furthest
     → advance f (good b) ≡ quiet f (grow (f .run) (good b))
-unfolding advance counts furthest
-advance-plain f b p h l = rw (step-plain f b p, le-leb (f .passed + 1) 6148914691236517205 h, le-leb (f .sum) 6148914691236517205 l)
+unfolding advance counts
+advance-plain f b p h l = rw (step-plain f b p, le-leb (f .passed + 1) furthest h, le-leb (f .sum) furthest l)
 
-take-plain : (s : Search) (b : ℕ) → s .part ≡ parts.Nothing → Plain b → s .finder .passed + 1 ≤ 6148914691236517205 → s .finder .sum ≤ 6148914691236517205
+take-plain : (s : Search) (b : ℕ) → s .part ≡ parts.Nothing → Plain b → s .finder .passed + 1 ≤ furthest → s .finder .sum ≤ furthest
     → record { search = moved s 1 (grow (s .finder .run) (good b)); told = told.Nothing } ≡ take s b
 unfolding takenAt pass
 take-plain s b e p h l = rw (← taken parts.Nothing s b e, ne-eqb b 0xFF (p .no-mark), advance-plain (s .finder) b p h l)
@@ -101,7 +101,7 @@ moved-more s k r o =
     rw (place, passed)
 
 module _ (piece : List ℕ) (from at : ℕ) (s : Search) (sound : SoundSearch s) (between : s .part ≡ parts.Nothing)
-    (p : PlainTo piece from at) (room : s .finder .passed + (at - from) ≤ 6148914691236517205) where
+    (p : PlainTo piece from at) (room : s .finder .passed + (at - from) ≤ furthest) where
   over : (k : ℕ) → from + k ≤ at → Follows piece from s told.Nothing (from + k) (moved s k (runOver piece from k (s .finder .run)))
   over zero h =
       let none : from + 0 ≡ from = omega arith in

@@ -68,7 +68,7 @@ reaches p [] e = all (sym (append-nil p)) (ap countable (append-nil p) ∙ e)
 reaches p (c ∷ cs) e = reaches-by p c cs (λ h. reaches (p ++ c ∷ []) cs h) (countable (p ++ c ∷ [])) refl
 
 none-countable : countable [] ≡ true
-unfolding countable furthest
+unfolding countable
 none-countable = refl
 
 whole-by : (s : List ℕ) (cs front : List Character) → Reaches [] cs front → Whole cs (comesTo s cs front [])

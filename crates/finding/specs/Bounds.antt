@@ -2,6 +2,7 @@
 use mathlib.Core.Bool.{Bool, true, false}
 use Prim.Native.Nat.{ℕ, zero, suc, _*_, _-_, _≤_, _<_, min}
 use Rattle.paper.specs.Stream.{Character, good, damaged}
+use Rattle.paper.specs.Confirmations.{furthest}
 use Rattle.finding.specs.Finder.{advance}
 use Rattle.finding.specs.Finder as finder
 use Rattle.finding.specs.Search.{beginning, take}
@@ -39,8 +40,8 @@ SoundLast (Number n) = n < 10000
 pub record SoundFinder (f : Finder) : Type 0 where
   pub run : SoundOpen (f .run)
   pub last : SoundLast (f .last)
-  pub passed : f .passed ≤ 6148914691236517205
-  pub sum : f .sum ≤ 6148914691236517205
+  pub passed : f .passed ≤ furthest
+  pub sum : f .sum ≤ furthest
 
 -- at most three bytes a character
 pub record SoundSearch (s : Search) : Type 0 where

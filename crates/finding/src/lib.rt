@@ -4,7 +4,7 @@ ghost use mathlib.Core.Path.{_≡_};
 ghost use mathlib.Core.Option.{none, some};
 ghost use Prim.Native.Nat.{_+_, _≤_, _<_};
 ghost use lib.ListN.{length};
-ghost use Rattle.paper.specs.Confirmations.{judgementOn, counted, litresOf};
+ghost use Rattle.paper.specs.Confirmations.{judgementOn, counted, litresOf, furthest};
 ghost use Rattle.finding.specs.Finder as the;
 ghost use Rattle.finding.specs.Bounds.{character, SoundForm, SoundOpen, SoundLast, SoundFinder, SoundSearch};
 ghost use Rattle.finding.specs.Search as searched;
@@ -546,7 +546,7 @@ struct Settled {
 // The search behind so many good characters, at a place, with the run that they leave open.
 fn moved(s: Search, count: usize, run: Open, at: usize) -> Settled
     requires { ⌜ SoundSearch s ⌝ }
-    requires { ⌜ s .finder .passed + count ≤ 6148914691236517205 ⌝ }
+    requires { ⌜ s .finder .passed + count ≤ furthest ⌝ }
     ensures { λ r. ⌜ r ≡ record { at = at; search = stretches.moved s count run } ⌝ }
 {
     let before = s.finder;

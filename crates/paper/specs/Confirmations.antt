@@ -174,7 +174,7 @@ abbrev pub sum : List Character → ℕ
 sum cs = litres (accepted (entries cs))
 
 -- how many characters, and how many litres, are counted: a third of what 64 bits hold
-unfoldable pub furthest : ℕ
+abbrev pub furthest : ℕ
 furthest = 6148914691236517205
 
 unfoldable pub countable : List Character → Bool
