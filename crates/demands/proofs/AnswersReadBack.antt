@@ -24,7 +24,7 @@ use Rattle.paper.specs.declared.Why.the-variants.{FlowSwallowed, DamagedDiscard
 use Rattle.paper.specs.declared.Fate.{Fate}
 use Rattle.paper.specs.declared.Fate.the-variants.{Stored, Nothing, Lost}
 use Rattle.paper.specs.declared.Refusal.{Refusal}
-use Rattle.paper.specs.declared.Refusal.the-variants.{BadChannel, BadKind, TooMany, NoRoom, BadField, BadSpecial, SpecialWaits, BrokenStream, ShortOutput, BadCts, BadLine, TooManyEntries}
+use Rattle.paper.specs.declared.Refusal.the-variants.{BadChannel, BadKind, TooMany, NoRoom, BadField, BadSpecial, SpecialWaits, BrokenStream, ShortOutput, BadCts, BadLine, OutsideRange, TooFar, TooManyEntries}
 use Rattle.paper.specs.declared.Answer.{Answer}
 use Rattle.paper.specs.declared.Answer.the-variants.{Refused, Fated, Handed, Took, Silent, Sent, Done, Shown, Picked, NoneReady}
 use Rattle.demands.specs.Spelling as spelling
@@ -49,6 +49,8 @@ refusalIn n v =
     if eqb n 9 then ShortOutput else
     if eqb n 10 then BadCts else
     if eqb n 11 then BadLine else
+    if eqb n 12 then OutsideRange else
+    if eqb n 13 then TooFar else
     TooManyEntries
 
 abbrev fateIn : ℕ → Fate
@@ -174,6 +176,8 @@ numbered (BrokenStream place) = followed 8 place refl refl
 numbered ShortOutput = alone 9 refl refl
 numbered BadCts = alone 10 refl refl
 numbered BadLine = alone 11 refl refl
+numbered OutsideRange = alone 12 refl refl
+numbered TooFar = alone 13 refl refl
 numbered TooManyEntries = alone 16 refl refl
 
 -- from a line

@@ -1,7 +1,8 @@
 -- Request n's cases, by computation over the definitions.
 use mathlib.Core.Path.{refl}
-use Rattle.paper.specs.Confirmations.{digit, fits, confirmationOf, mark, next, judgementOn, countable, confirm}
-use Rattle.paper.specs.Yield.{decimal, words, judgementWords, lineOf, litresLine, brokenLine, fullLine, yieldSheet}
+use Rattle.paper.specs.Decimal.{digit, decimal}
+use Rattle.paper.specs.Confirmations.{fits, confirmationOf, mark, next, judgementOn, countable, confirm}
+use Rattle.paper.specs.Yield.{words, judgementWords, lineOf, litresLine, brokenLine, fullLine, yieldSheet}
 use Rattle.paper.specs.Channel.{noRoom}
 use Rattle.paper.specs.Card.{step}
 use Rattle.demands.specs.ConfirmationCases.{JudgedCases, AsideCases, RunCases, FormCases, ConfirmCases, TheScale, YieldCases}

@@ -8,7 +8,8 @@ use native.Mathlib.Omega.{arith}
 use lib.Dec.{eqb, leb}
 use lib.ListN.{length, take, drop}
 use borrow.Author.Tests.{eqb-true, leb-true, le-leb, ne-eqb}
-use Rattle.paper.specs.Confirmations.{digit, spelled, fits, allFit, rightLength, confirmationOf}
+use Rattle.paper.specs.Decimal.{digit, spelled}
+use Rattle.paper.specs.Confirmations.{fits, allFit, rightLength, confirmationOf}
 use Rattle.paper.specs.declared.Confirmation.{Confirmation}
 use Rattle.demands.specs.Confirmations.{IsDigit, AllDigits, Spells, RightForm}
 use Rattle.demands.proofs.Choices.{chosen-and, both}

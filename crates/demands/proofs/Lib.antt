@@ -27,4 +27,7 @@ pub mod ConfirmationEntries
 pub mod OutsideRuns
 pub mod ConfirmationCases
 pub mod Confirmations
+pub mod FirstBest
+pub mod Distances
+pub mod Rates
 pub mod Demands

@@ -12,7 +12,8 @@ use Rattle.paper.specs.Run.{Moment, run, nameless}
 use Rattle.paper.specs.Numbers.{listingNumbers}
 use Rattle.paper.specs.Text.{text}
 use Rattle.paper.specs.Confirmations.{entries, sum, furthest, LentList, Confirmed, confirm}
-use Rattle.paper.specs.Yield.{decimal, yieldOf, yieldSheet}
+use Rattle.paper.specs.Decimal.{decimal}
+use Rattle.paper.specs.Yield.{yieldOf, yieldSheet}
 use Rattle.paper.specs.declared.Refusal.the-variants.{BrokenStream, TooManyEntries}
 use Rattle.paper.specs.declared.Listing.{Listing}
 use Rattle.paper.specs.declared.Listing.the-variants.{Listed, Unlisted}

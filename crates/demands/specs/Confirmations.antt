@@ -12,7 +12,8 @@ use Rattle.paper.specs.Queue.{itemsOf}
 use Rattle.paper.specs.Stream.{Character, good, damaged}
 use Rattle.paper.specs.Card.{Call}
 use Rattle.paper.specs.Run.{nameless}
-use Rattle.paper.specs.Confirmations.{spelled, confirmationOf, inner, mark, Run, runs, Finding, findings, counted, entries, accepted, sum, countable, said, placeIn, LentList, placesOf, listedIn, Confirmed, confirm}
+use Rattle.paper.specs.Decimal.{spelled}
+use Rattle.paper.specs.Confirmations.{confirmationOf, inner, mark, Run, runs, Finding, findings, counted, entries, accepted, sum, countable, said, placeIn, LentList, placesOf, listedIn, Confirmed, confirm}
 use Rattle.paper.specs.declared.Refusal.the-variants.{BrokenStream, TooManyEntries}
 use Rattle.paper.specs.declared.Listing.the-variants.{Listed, Unlisted}
 use Rattle.paper.specs.declared.Confirmation.{Confirmation}

@@ -4,5 +4,7 @@ pub mod Conditions
 pub mod Spelling
 pub mod Examples
 pub mod Confirmations
+pub mod Looks
+pub mod Rates
 pub mod ConfirmationCases
 pub mod Demands

@@ -8,7 +8,8 @@ use lib.Dec.{eqb, leb, ltb}
 use borrow.Author.Tests.{eqb-true, ltb-true, ltb-false, leb-true}
 use Rattle.paper.specs.Choice.{if_then_else_}
 use Rattle.paper.specs.Stream.{Character, byte}
-use Rattle.paper.specs.Confirmations.{Mark, start, finish, inner, mark, digit, fits, Finding, finding, next, judgementOn, judgement, counted, lastAfter, judge, furthest}
+use Rattle.paper.specs.Decimal.{digit}
+use Rattle.paper.specs.Confirmations.{Mark, start, finish, inner, mark, fits, Finding, finding, next, judgementOn, judgement, counted, lastAfter, judge, furthest}
 use Rattle.finding.specs.Finder.{formed, otherForm, formStep, contentIn, grow, closing, close, stepAt, step, counts, full, advance, beginning}
 use Rattle.finding.specs.Bounds.{tens, SoundForm, SoundOpen, SoundLast, SoundFinder}
 use Rattle.paper.specs.declared.Confirmation.{Confirmation}

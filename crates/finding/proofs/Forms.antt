@@ -11,7 +11,8 @@ use lib.Seq.{take-nil, drop-nil}
 use borrow.Author.Tests.{ltb-true, ltb-false, lt-leb}
 use Rattle.paper.specs.Choice.{if_then_else_}
 use Rattle.paper.specs.Stream.{Character, damaged, byte}
-use Rattle.paper.specs.Confirmations.{spelled, fits, allFit, rightLength, confirmationOf, anyDamaged, found}
+use Rattle.paper.specs.Decimal.{spelled}
+use Rattle.paper.specs.Confirmations.{fits, allFit, rightLength, confirmationOf, anyDamaged, found}
 use Rattle.finding.specs.Finder.{formed, otherForm, formStep, contentIn, fresh, grown, closing}
 use Rattle.paper.specs.declared.Confirmation.{Confirmation}
 use Rattle.finding.specs.declared.Form.{Form}

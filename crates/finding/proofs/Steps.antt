@@ -8,7 +8,8 @@ use lib.Dec.{eqb, ltb}
 use borrow.Author.Tests.{ne-eqb, lt-ltb, le-ltb, le-leb, lt-leb}
 use Rattle.paper.specs.Choice.{if_then_else_}
 use Rattle.paper.specs.Stream.{Character, damaged}
-use Rattle.paper.specs.Confirmations.{mark, digit, fits, next, judgementOn, judgement, counted, litresOf, furthest}
+use Rattle.paper.specs.Decimal.{digit}
+use Rattle.paper.specs.Confirmations.{mark, fits, next, judgementOn, judgement, counted, litresOf, furthest}
 use Rattle.finding.specs.Finder.{formed, otherForm, formStep, contentIn, fresh, grown, grow, closing, quiet, tell, close, step, counts, full, advance}
 use Rattle.finding.specs.Bounds.{character, tens, SoundForm}
 use Rattle.paper.specs.declared.Confirmation.{Confirmation}

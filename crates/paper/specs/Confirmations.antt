@@ -6,6 +6,7 @@ use Prim.Native.Nat.{ℕ, _+_, _*_, _-_, _%_, min}
 use lib.Dec.{eqb, leb, ltb}
 use lib.ListN.{length, take, drop}
 use Rattle.paper.specs.Choice.{if_then_else_}
+use Rattle.paper.specs.Decimal.{digit, spelled}
 use Rattle.paper.specs.Stream.{Character, good, damaged, byte, readout, front}
 use Rattle.paper.specs.declared.Refusal.the-variants.{BrokenStream, TooManyEntries}
 use Rattle.paper.specs.declared.Confirmation.{Confirmation}
@@ -18,14 +19,6 @@ use Rattle.paper.specs.declared.Listing.{Listing}
 use Rattle.paper.specs.declared.Listing.the-variants.{Listed, Unlisted}
 
 -- FORM: "a confirmation is STX (02), a four-digit number, a space, one to six digits of litres, ETX (03)."
-
-unfoldable pub digit : ℕ → Bool
-digit b = leb 0x30 b && leb b 0x39
-
--- the number that digits spell behind others that spell v
-abbrev pub spelled : (v : ℕ) → List ℕ → ℕ
-spelled v [] = v
-spelled v (b ∷ bs) = spelled (10 * v + (b - 0x30)) bs
 
 -- the fifth byte is a space, every other a digit
 unfoldable pub fits : (place : ℕ) → ℕ → Bool

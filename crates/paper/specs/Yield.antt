@@ -1,32 +1,17 @@
 -- 02 n as a text for the keeper of the yield sheet: a line for each entry, and a last line with the sum.
 use mathlib.Core.List.{List, [], _∷_, _++_}
-use Prim.Native.Nat.{ℕ, zero, suc, _+_, _-_, _/_, _%_}
-use lib.Dec.{eqb, ltb}
+use Prim.Native.Nat.{ℕ, _-_}
+use lib.Dec.{eqb}
 use lib.ListN.{length}
 use Rattle.paper.specs.Choice.{if_then_else_}
 use Rattle.paper.specs.Text.{text}
+use Rattle.paper.specs.Decimal.{lastDigits, decimal}
 use Rattle.paper.specs.Stream.{Character, readout}
 use Rattle.paper.specs.Confirmations.{entries, sum, countable}
 use Rattle.paper.specs.declared.Confirmation.{Confirmation}
 use Rattle.paper.specs.declared.Judgement.{Judgement}
 use Rattle.paper.specs.declared.Judgement.the-variants.{Accepted, Gap, Repeated, Aside}
 use Rattle.paper.specs.declared.Entry.{Entry}
-
--- NUMBERS IN DIGITS
-
--- the last of so many digits
-abbrev pub lastDigits : (count : ℕ) → ℕ → List ℕ
-lastDigits zero n = []
-lastDigits (suc count) n = lastDigits count (n / 10) ++ (0x30 + n % 10) ∷ []
-
--- how many digits a number has: one more than its tenth; the first argument is as large as the number, so there are enough
-abbrev pub digitsOf : (enough : ℕ) → ℕ → ℕ
-digitsOf zero n = 1
-digitsOf (suc enough) n = if ltb n 10 then 1 else digitsOf enough (n / 10) + 1
-
--- all its digits, and so no leading zero
-unfoldable pub decimal : ℕ → List ℕ
-decimal n = lastDigits (digitsOf n n) n
 
 -- LINES
 

@@ -12,7 +12,7 @@ use Rattle.paper.specs.Frames.{hexadecimal}
 use Rattle.paper.specs.Numbers.{refusalNumbers}
 use Rattle.paper.specs.declared.Refusal.{Refusal}
 use Rattle.paper.specs.declared.Refusal.the-variants.{BadChannel, BadKind, TooMany, NoRoom, BadField, BadSpecial}
-use Rattle.paper.specs.declared.Refusal.the-variants.{SpecialWaits, BrokenStream, ShortOutput, BadCts, BadLine, TooManyEntries}
+use Rattle.paper.specs.declared.Refusal.the-variants.{SpecialWaits, BrokenStream, ShortOutput, BadCts, BadLine, OutsideRange, TooFar, TooManyEntries}
 use Rattle.paper.proofs.Refusal as refusals
 use Rattle.hexadecimal.specs.Written.{Wrote}
 use Rattle.printing.specs.Printed.{refusalNumber, lineOf}
@@ -43,7 +43,7 @@ refused r e n w = (let m = rw e at n in rw (e, ← m) w)
 
 -- a refusal that has neither a field nor a place is its number alone
 abbrev Alone : List ℕ
-Alone = 0 ∷ 1 ∷ 2 ∷ 3 ∷ 5 ∷ 6 ∷ 8 ∷ 9 ∷ 10 ∷ 11 ∷ []
+Alone = 0 ∷ 1 ∷ 2 ∷ 3 ∷ 5 ∷ 6 ∷ 8 ∷ 9 ∷ 10 ∷ 11 ∷ 12 ∷ 13 ∷ []
 
 pub alone : (r : Refusal) → OneOf Alone (tagOf refusals.the-type r) → refusalNumbers r ≡ refusalNumber r ∷ []
 alone BadChannel h = refl
@@ -57,4 +57,6 @@ alone (BrokenStream place) h = absurd (miss Alone 7 tt h)
 alone ShortOutput h = refl
 alone BadCts h = refl
 alone BadLine h = refl
+alone OutsideRange h = refl
+alone TooFar h = refl
 alone TooManyEntries h = refl

@@ -7,7 +7,7 @@ use Rattle.paper.specs.Settings.{cardSize}
 use Rattle.paper.specs.Frames.{lentBytes, hexadecimal, newline}
 use Rattle.paper.specs.declared.Refusal.{Refusal}
 use Rattle.paper.specs.declared.Refusal.the-variants.{BadChannel, BadKind, TooMany, NoRoom, BadField, BadSpecial}
-use Rattle.paper.specs.declared.Refusal.the-variants.{SpecialWaits, BrokenStream, ShortOutput, BadCts, BadLine, TooManyEntries}
+use Rattle.paper.specs.declared.Refusal.the-variants.{SpecialWaits, BrokenStream, ShortOutput, BadCts, BadLine, OutsideRange, TooFar, TooManyEntries}
 
 -- "one line of hexadecimal in capitals": as the paper's `answered` has it
 abbrev pub lineOf : (values : List ℕ) → List ℕ
@@ -40,6 +40,8 @@ SmallRefusal (BrokenStream place) = place < 256
 SmallRefusal ShortOutput = Unit
 SmallRefusal BadCts = Unit
 SmallRefusal BadLine = Unit
+SmallRefusal OutsideRange = Unit
+SmallRefusal TooFar = Unit
 SmallRefusal TooManyEntries = Unit
 
 -- a read wrote no more than the bytes that it was lent

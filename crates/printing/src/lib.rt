@@ -59,6 +59,8 @@ pub fn refusal_number(refusal: Refusal) -> u8
         Refusal::ShortOutput => 9,
         Refusal::BadCts => 10,
         Refusal::BadLine => 11,
+        Refusal::OutsideRange => 12,
+        Refusal::TooFar => 13,
         Refusal::TooManyEntries => 16,
     }
 }

@@ -9,7 +9,7 @@ use lib.Dec.{ltb}
 use lib.ListN.{length, length-append}
 use borrow.Author.Tests.{lt-ltb, le-ltb}
 use Rattle.paper.specs.Choice.{if_then_else_}
-use Rattle.paper.specs.Yield.{lastDigits, digitsOf, decimal}
+use Rattle.paper.specs.Decimal.{lastDigits, digitsOf, decimal}
 
 pub length-digits : (count n : ℕ) → length (lastDigits count n) ≡ count
 length-digits zero n = refl

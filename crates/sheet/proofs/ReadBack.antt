@@ -10,8 +10,7 @@ use lib.Dec.{ltb}
 use lib.ListN.{length, getD, List·getD-append}
 use borrow.Author.Tests.{ltb-true, ltb-false}
 use Rattle.paper.specs.Choice.{if_then_else_}
-use Rattle.paper.specs.Confirmations.{spelled}
-use Rattle.paper.specs.Yield.{lastDigits, digitsOf, decimal}
+use Rattle.paper.specs.Decimal.{spelled, lastDigits, digitsOf, decimal}
 use Rattle.sheet.specs.ReadBack.{AllDigits, DecimalReadsBack, NumberReadsBack}
 use Rattle.sheet.proofs.Digits.{length-digits}
 

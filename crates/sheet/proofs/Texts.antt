@@ -7,7 +7,7 @@ use native.Mathlib.Nat.{add-assoc, add-zero, add-suc}
 use native.Mathlib.Numerals.{add-one}
 use lib.ListN.{length, getD, take, set, length-set, take-append-drop}
 use lib.Seq.{slice, slice-empty, slice-cons, append-snoc, take-all, take-suc, take-take, take-set-le, take-set-lt, drop-set-lt, getD-set-same}
-use Rattle.paper.specs.Yield.{lastDigits}
+use Rattle.paper.specs.Decimal.{lastDigits}
 use Rattle.hexadecimal.specs.Written.{Wrote}
 use Rattle.hexadecimal.proofs.Laws.{wrote-none, wrote-one, wrote-then}
 use Rattle.sheet.proofs.Digits.{length-digits}

@@ -4,8 +4,7 @@ use mathlib.Core.Path.{_≡_}
 use Prim.Native.Nat.{ℕ, _≤_, _<_}
 use lib.ListN.{length, getD}
 use Rattle.paper.specs.Text.{text}
-use Rattle.paper.specs.Confirmations.{spelled}
-use Rattle.paper.specs.Yield.{lastDigits, decimal}
+use Rattle.paper.specs.Decimal.{spelled, lastDigits, decimal}
 
 abbrev pub AllDigits : List ℕ → Type 0
 AllDigits [] = Unit

@@ -3,7 +3,7 @@ use mathlib.Core.Path.{_≡_}
 use Prim.Native.Nat.{_+_, _≤_}
 use native.Mathlib.Omega.{arith}
 use borrow.Author.Needs.{needs}
-use Rattle.paper.specs.Yield.{digitsOf}
+use Rattle.paper.specs.Decimal.{digitsOf}
 use Rattle.sheet.proofs.Digits.{one-digit, digits-more}
 use Rattle.sheet.proofs.digits_of.Statement.{statement}
 use Rattle.sheet.proofs.digits_of.Tie as tie

@@ -1,6 +1,6 @@
 -- `sheet::put_decimal` meets its contract.
 use native.Mathlib.Omega.{arith}
-use Rattle.paper.specs.Yield.{decimal}
+use Rattle.paper.specs.Decimal.{decimal}
 use Rattle.sheet.proofs.Digits.{length-decimal}
 use borrow.Author.Needs.{needs}
 use Rattle.sheet.proofs.put_decimal.Statement.{statement}

@@ -1,0 +1,107 @@
+-- A row of periods in two looks, and all pairs row by row.
+use mathlib.Core.Bool.{Bool, true, false}
+use mathlib.Core.List.{List, [], _∷_, _++_}
+use mathlib.Core.Option.{some}
+use mathlib.Core.Path.{_≡_, refl, ap, sym, _∙_}
+use Prim.Native.Nat.{ℕ, zero, suc, _+_, _-_, _*_, _≤_, _<_}
+use native.Mathlib.Nat.{mul-le-mul-left}
+use native.Mathlib.Numerals.{add-one}
+use native.Mathlib.Omega.{arith}
+use borrow.Author.Tests.{le-ltb}
+use Rattle.paper.specs.declared.Pair.{Pair}
+use Rattle.paper.specs.declared.Refusal.the-variants.{TooFar}
+use Rattle.paper.specs.declared.Choosing.the-variants.{Unchosen}
+use Rattle.paper.specs.Choice.{if_then_else_}
+use Rattle.paper.specs.Rate.{every, pair, divider, row, rows, pairs, nearer, outOfRange, tooFar, choice, told, choose}
+use Rattle.demands.specs.Looks.{pick, best}
+use Rattle.demands.specs.Rates.{InRange}
+use Rattle.choosing.specs.Search.{Beside, toldOf}
+use Rattle.demands.proofs.FirstBest.{skip, spare, best-append}
+use Rattle.demands.proofs.Distances.{ordered, rises, falls}
+use Rattle.demands.proofs.Rates.{start, choice-is-kept, far-is-kept}
+
+row-starts : (d k n : ℕ) → row d k (suc n) ≡ pair d k ∷ row d (suc k) n
+unfolding row
+row-starts d k n = refl
+
+module _ (clock wanted : ℕ) (running : 1 ≤ clock) where
+  abbrev near : Pair → Pair → Bool
+  near = nearer clock wanted
+
+  looked-out : (b : Pair) (d k : ℕ) → best near b (row d k 0) ≡ b
+  unfolding row best
+  looked-out b d k = refl
+
+  look-on : (b : Pair) (d k n : ℕ) → best near b (row d k (suc n)) ≡ best near (pick near b (pair d k)) (row d (suc k) n)
+  unfolding row best
+  look-on b d k n = refl
+
+  module _ (d : ℕ) (some : 1 ≤ d) where
+    -- up to the exact period only the last counts
+    climbs : (b : Pair) (k n many : ℕ) → n < many → (1 ≤ n → wanted * d * (k + n) ≤ clock)
+        → best near b (row d k many) ≡ best near b (row d (k + n) (many - n))
+    unfolding row best
+    climbs b k zero many less below =
+        let start : k + 0 ≡ k = omega arith in
+        let all : many - 0 ≡ many = omega arith in
+        rw (start, all)
+    climbs b k (suc n) zero less below = absurd (omega arith)
+    climbs b k (suc n) (suc zero) less below = absurd (omega arith)
+    climbs b k (suc n) (suc (suc many)) less below =
+        let here : wanted * d * suc k ≤ clock = omega (arith, mul-le-mul-left {m = suc k} {n = k + suc n} (wanted * d) (omega arith), below (omega arith)) in
+        let start : k + suc n ≡ suc k + n = omega arith in
+        let left : suc (suc many) - suc n ≡ suc many - n = omega arith in
+        rw (start, left)
+        (ap (λ x. best near x (row d (suc (suc k)) many)) (skip (ordered clock wanted running) b (pair d k) (pair d (suc k)) (rises clock wanted running d k some here))
+        ∙ climbs b (suc k) n (suc many) (omega arith) (λ _. rw start at (below (omega arith))))
+
+    -- beyond it only the first counts
+    descends : (b : Pair) (k n : ℕ) → clock ≤ wanted * d * k → best near (pick near b (pair d k)) (row d (suc k) n) ≡ pick near b (pair d k)
+    unfolding row best
+    descends b k zero above = refl
+    descends b k (suc n) above =
+        descends (pick near b (pair d k)) (suc k) n (omega arith)
+        ∙ spare (ordered clock wanted running) b (pair d k) (pair d (suc k)) (falls clock wanted running d k above)
+
+    module _ (b : Pair) (k : ℕ) where
+      -- the look at a period that the exact one is not below, and the rest
+      to-there : (n : ℕ) → 1 ≤ k → (1 < k → wanted * d * k ≤ clock)
+          → best near b (row d 1 (k + n)) ≡ best near (pick near b (pair d k)) (row d (suc k) n)
+      unfolding best
+      to-there n least below =
+          let start : 1 + (k - 1) ≡ k = omega arith in
+          let left : k + n - (k - 1) ≡ suc n = omega arith in
+          climbs b 1 (k - 1) (k + n) (omega arith) (λ h. rw start (below (omega arith)))
+          ∙ rw (start, left, row-starts)
+
+      pub one-look : k ≡ 255 → Beside clock (wanted * d) k → best near b (row d 1 255) ≡ pick near b (pair d k)
+      one-look e s =
+          let whole : 255 ≡ k + 0 = omega arith in
+          ap (λ n. best near b (row d 1 n)) whole ∙ to-there 0 (s .least) (s .below) ∙ looked-out (pick near b (pair d k)) d (suc k)
+
+      pub two-looks : k < 255 → Beside clock (wanted * d) k
+          → best near b (row d 1 255) ≡ pick near (pick near b (pair d k)) (pair d (k + 1))
+      two-looks less s =
+          let whole : 255 ≡ k + suc (254 - k) = omega arith in
+          let beyond : clock ≤ wanted * d * suc k = rw add-one at (s .above less) in
+          ap (λ n. best near b (row d 1 n)) whole ∙ to-there (suc (254 - k)) (s .least) (s .below)
+          ∙ look-on (pick near b (pair d k)) d (suc k) (254 - k)
+          ∙ rw add-one (descends (pick near b (pair d k)) (suc k) (254 - k) beyond)
+
+  -- all pairs, row by row
+  pub by-rows : best near start pairs
+      ≡ best near (best near (best near (best near (best near start (row 8 1 255)) (row 32 1 255)) (row 128 1 255)) (row 512 1 255)) (row 2048 1 255)
+  unfolding pairs rows best
+  by-rows = simp (best-append (ordered clock wanted running))
+
+  pub told-is-kept : (p : Pair) → p ≡ best near start pairs
+      → toldOf clock wanted p ≡ (if every (tooFar clock wanted) pairs then Unchosen TooFar else told clock wanted (choice clock wanted pairs))
+  unfolding toldOf
+  told-is-kept p e = rw (e, far-is-kept clock wanted running, choice-is-kept clock wanted running)
+
+pub chosen-is-kept : (clock wanted : ℕ) (p : Pair) → InRange clock wanted → p ≡ best (nearer clock wanted) (pair 8 1) pairs
+    → toldOf clock wanted p ≡ choose clock wanted
+unfolding choose outOfRange
+chosen-is-kept clock wanted p s e =
+    told-is-kept clock wanted (omega arith) p e
+    ∙ rw (le-ltb clock 1000000 (s .slow), le-ltb 60000000 clock (s .fast), le-ltb wanted 1 (s .some), le-ltb 230400 wanted (s .most))

@@ -1,0 +1,36 @@
+use mathlib.Core.Path.{sym, _∙_}
+use borrow.Author.Needs.{needs}
+use Rattle.paper.specs.Rate.{choose, outOfRange}
+use Rattle.demands.proofs.Rates.{in-range}
+use Rattle.choosing.proofs.Rows.{chosen-is-kept}
+use Rattle.choosing.proofs.choose.Statement.{statement}
+use Rattle.choosing.proofs.choose.Tie as tie
+
+returns : tie.Need-returns
+unfolding choose outOfRange
+returns c = rw (← c .before .is-outside .ensures, c .if1 .taken)
+
+returns-2 : tie.Need-returns-2
+unfolding choose outOfRange
+returns-2 c =
+    let first = c .before .before .before .is-outside in
+    rw (← first .ensures, c .before .before .if1 .left, ← c .before .is-outside2 .ensures, c .if2 .taken)
+
+nearest-requires : tie.Need-nearest-requires
+nearest-requires c κs =
+    let first = c .before .before .before .is-outside in
+    in-range _ _ (sym (first .ensures) ∙ c .before .before .if1 .left) (sym (c .before .is-outside2 .ensures) ∙ c .if2 .left)
+
+tell-requires : tie.Need-tell-requires
+tell-requires c κs = (nearest-requires (c .before) κs, c .nearest .ensures .fits)
+
+returns-3 : tie.Need-returns-3
+returns-3 c =
+    let a = c .before .before .before .before .before .before .args in
+    let found = c .before .nearest in
+    c .tell .ensures ∙ chosen-is-kept (a .clock) (a .wanted) (found .result) (nearest-requires (c .before .before) tt) (found .ensures .is)
+
+pub choose-spec : {M : Type 1} → statement M
+choose-spec =
+    tie.close
+    (tie.spec (λ c κs. search needs) returns (λ c κs. search needs) returns-2 nearest-requires tell-requires returns-3)

@@ -1,0 +1,44 @@
+use mathlib.Core.Path.{_∙_}
+use native.Mathlib.Nat.{mul-le-mul}
+use native.Mathlib.Omega.{arith}
+use borrow.Author.Needs.{needs}
+use Rattle.paper.specs.Rate.{deviation}
+use Rattle.choosing.proofs.Signed.{times-most, times-fit, minus-fits, product-fits, quotient-fits, deviates}
+use Rattle.choosing.proofs.deviation_of.Statement.{statement}
+use Rattle.choosing.proofs.deviation_of.Tie as tie
+
+mul-times : tie.Need-mul-times
+mul-times c = omega (arith, times-most _ _ _ (c .before .pre .0) (c .divider-of .ensures .1))
+
+cast-difference-2 : tie.Need-cast-difference-2
+cast-difference-2 c = times-fit _ _ _ (c .before .pre .0) (c .divider-of .ensures .1)
+
+sub-difference : tie.Need-sub-difference
+sub-difference c = minus-fits _ _ _ (c .before .pre .0) (c .divider-of .ensures .1)
+
+mul-result : tie.Need-mul-result
+mul-result c = product-fits _ _ _ (c .before .pre .0) (c .divider-of .ensures .1)
+
+div-result : tie.Need-div-result
+div-result c = (
+  rw (c .divider-of .ensures .0) (omega (arith, mul-le-mul (c .before .pre .0 .some) (c .before .pre .1 .some))),
+  quotient-fits _ _ _ (c .before .pre .0) (c .divider-of .ensures .1),
+)
+
+returns : tie.Need-returns
+unfolding deviation
+returns c = deviates _ _ _ (c .before .pre .0) (c .divider-of .ensures .1) ∙ rw (c .divider-of .ensures .0)
+
+pub deviation-of-spec : {M : Type 1} → statement M
+deviation-of-spec =
+    tie.close
+    (tie.spec
+    (λ c κs. search needs)
+    mul-times
+    (λ c. search needs)
+    cast-difference-2
+    sub-difference
+    mul-result
+    cast-difference-2
+    div-result
+    returns)

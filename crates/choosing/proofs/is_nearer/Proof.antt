@@ -1,0 +1,33 @@
+use native.Mathlib.Nat.{mul-le-mul}
+use native.Mathlib.Omega.{arith}
+use borrow.Author.Needs.{needs}
+use Rattle.paper.specs.Rate.{nearer}
+use Rattle.choosing.proofs.is_nearer.Statement.{statement}
+use Rattle.choosing.proofs.is_nearer.Tie as tie
+
+mul-result : tie.Need-mul-result
+mul-result c = omega (arith, mul-le-mul (c .before .gap-of .ensures .1) (c .before .before .divider-of2 .ensures .1))
+
+mul-result-2 : tie.Need-mul-result-2
+mul-result-2 c = omega (arith, mul-le-mul (c .gap-of2 .ensures .1) (c .before .before .before .divider-of .ensures .1))
+
+returns : tie.Need-returns
+unfolding nearer
+returns c = rw (
+  c .before .gap-of .ensures .0,
+  c .gap-of2 .ensures .0,
+  c .before .before .divider-of2 .ensures .0,
+  c .before .before .before .divider-of .ensures .0,
+)
+
+pub is-nearer-spec : {M : Type 1} → statement M
+is-nearer-spec =
+    tie.close
+    (tie.spec
+    (λ c κs. search needs)
+    (λ c κs. search needs)
+    (λ c κs. search needs)
+    (λ c κs. search needs)
+    mul-result
+    mul-result-2
+    returns)

@@ -1,0 +1,35 @@
+use mathlib.Core.Path.{_∙_, sym}
+use native.Mathlib.Omega.{arith}
+use borrow.Author.Needs.{needs}
+use Rattle.choosing.proofs.Rows.{by-rows}
+use Rattle.choosing.proofs.nearest.Statement.{statement}
+use Rattle.choosing.proofs.nearest.Tie as tie
+
+returns : tie.Need-returns
+returns c =
+    let fourth = c .before in
+    let third = c .before .before in
+    let second = c .before .before .before in
+    let first = c .before .before .before .before in
+    let a = c .before .before .before .before .before in
+    record {
+      is = rw (
+        by-rows (a .args .clock) (a .args .wanted) (omega arith),
+        ← first .look-along .ensures .is,
+        ← second .look-along2 .ensures .is,
+        ← third .look-along3 .ensures .is,
+        ← fourth .look-along4 .ensures .is,
+      ) (c .look-along5 .ensures .is);
+      fits = c .look-along5 .ensures .fits;
+    }
+
+pub nearest-spec : {M : Type 1} → statement M
+nearest-spec =
+    tie.close
+    (tie.spec
+    (λ c κs. search needs)
+    (λ c κs. search needs)
+    (λ c κs. search needs)
+    (λ c κs. search needs)
+    (λ c κs. search needs)
+    returns)

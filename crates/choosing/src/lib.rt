@@ -1,0 +1,169 @@
+// 02 c, "Choosing the rate": a divisor and a period for a clock and a wanted rate. Of the 1275 pairs it looks at ten at most: for each divisor at the
+// two periods beside the exact one. Whole numbers only: the greatest product is a distance times a divider, below 2 ^ 56.
+ghost use mathlib.Core.Path.{_≡_};
+ghost use Prim.Native.Nat.{_≤_, _*_};
+ghost use Rattle.paper.specs.Rate as paper;
+ghost use Rattle.demands.specs.Looks.{pick};
+ghost use Rattle.demands.specs.Rates.{InRange};
+ghost use Rattle.choosing.specs.Search.{Held, Beside, Kept, mostDivider, mostTimes, toldOf};
+use paper::Choosing;
+use paper::Pair;
+use paper::Refusal;
+
+// "divisor times period"
+fn divider_of(p: Pair) -> u64
+    requires { ⌜ Held p ⌝ }
+    ensures { λ r. ⌜ (r ≡ paper.divider p) × (r ≤ mostDivider) ⌝ }
+{
+    p.divisor as u64 * p.period as u64
+}
+
+// The distance between the clock and rate times divider.
+fn gap_of(clock: u64, wanted: u64, divider: u64) -> u64
+    requires { ⌜ InRange clock wanted ⌝ }
+    requires { ⌜ divider ≤ mostDivider ⌝ }
+    ensures { λ r. ⌜ (r ≡ paper.gap clock wanted divider) × (r ≤ mostTimes) ⌝ }
+{
+    let times = wanted * divider;
+    if times < clock {
+        return clock - times;
+    }
+    times - clock
+}
+
+// "compared as exact fractions"
+fn is_nearer(clock: u64, wanted: u64, p: Pair, q: Pair) -> bool
+    requires { ⌜ InRange clock wanted ⌝ }
+    requires { ⌜ Held p ⌝ }
+    requires { ⌜ Held q ⌝ }
+    ensures { λ r. ⌜ r ≡ paper.nearer clock wanted p q ⌝ }
+{
+    let divider = divider_of(p);
+    let other = divider_of(q);
+    let gap = gap_of(clock, wanted, divider);
+    let other_gap = gap_of(clock, wanted, other);
+    gap * other < other_gap * divider
+}
+
+// A look at one pair more: "ties go to" the one before.
+fn look(clock: u64, wanted: u64, kept: Pair, divisor: u32, period: u32) -> Pair
+    requires { ⌜ InRange clock wanted ⌝ }
+    requires { ⌜ Held kept ⌝ }
+    requires { ⌜ Held (paper.pair divisor period) ⌝ }
+    ensures { λ r. ⌜ (r ≡ pick (paper.nearer clock wanted) kept (paper.pair divisor period)) × Held r ⌝ }
+{
+    let seen = Pair { divisor, period };
+    if is_nearer(clock, wanted, seen, kept) {
+        return seen;
+    }
+    kept
+}
+
+// The period that the exact one, clock over step, stands at or behind, held to 1 to 255.
+fn beside(clock: u64, step: u64) -> u32
+    requires { ⌜ 1 ≤ step ⌝ }
+    ensures { λ r. ⌜ Beside clock step r ⌝ }
+{
+    let whole = clock / step;
+    if whole < 1 {
+        return 1;
+    }
+    if whole < 255 {
+        return whole as u32;
+    }
+    255
+}
+
+// All periods of a divisor, in two looks.
+fn look_along(clock: u64, wanted: u64, kept: Pair, divisor: u32) -> Pair
+    requires { ⌜ InRange clock wanted ⌝ }
+    requires { ⌜ Held kept ⌝ }
+    requires { ⌜ 1 ≤ divisor ⌝ }
+    requires { ⌜ divisor ≤ 2048 ⌝ }
+    ensures { λ r. ⌜ Kept clock wanted kept (paper.row divisor 1 255) r ⌝ }
+{
+    let period = beside(clock, wanted * divisor as u64);
+    let kept = look(clock, wanted, kept, divisor, period);
+    if period == 255 {
+        return kept;
+    }
+    look(clock, wanted, kept, divisor, period + 1)
+}
+
+// "a divisor of 8, 32, 128, 512 or 2048"
+fn nearest(clock: u64, wanted: u64) -> Pair
+    requires { ⌜ InRange clock wanted ⌝ }
+    ensures { λ r. ⌜ Kept clock wanted (paper.pair 8 1) paper.pairs r ⌝ }
+{
+    let start = Pair {
+        divisor: 8,
+        period: 1,
+    };
+    let kept = look_along(clock, wanted, start, 8);
+    let kept = look_along(clock, wanted, kept, 32);
+    let kept = look_along(clock, wanted, kept, 128);
+    let kept = look_along(clock, wanted, kept, 512);
+    look_along(clock, wanted, kept, 2048)
+}
+
+// "more than 25,000 millionths away, before cutting"
+fn is_too_far(clock: u64, wanted: u64, p: Pair) -> bool
+    requires { ⌜ InRange clock wanted ⌝ }
+    requires { ⌜ Held p ⌝ }
+    ensures { λ r. ⌜ r ≡ paper.tooFar clock wanted p ⌝ }
+{
+    let divider = divider_of(p);
+    let gap = gap_of(clock, wanted, divider);
+    25000 * (wanted * divider) < 1000000 * gap
+}
+
+// "the signed deviation in millionths of the wanted rate, cut toward zero": a signed quotient, from the exact difference between clock and rate times
+// divider.
+fn deviation_of(clock: u64, wanted: u64, p: Pair) -> i64
+    requires { ⌜ InRange clock wanted ⌝ }
+    requires { ⌜ Held p ⌝ }
+    ensures { λ r. ⌜ r ≡ paper.deviation clock wanted p ⌝ }
+{
+    let times = wanted * divider_of(p);
+    let difference = clock as i64 - times as i64;
+    difference * 1000000 / times as i64
+}
+
+// The pair that was kept, unless even it is too far.
+fn tell(clock: u64, wanted: u64, p: Pair) -> Choosing
+    requires { ⌜ InRange clock wanted ⌝ }
+    requires { ⌜ Held p ⌝ }
+    ensures { λ r. ⌜ r ≡ toldOf clock wanted p ⌝ }
+{
+    if is_too_far(clock, wanted, p) {
+        return Choosing::Unchosen(Refusal::TooFar);
+    }
+    let deviation = deviation_of(clock, wanted, p);
+    Choosing::Chosen(p, deviation)
+}
+
+// "outside its range"
+fn is_outside(least: u32, most: u32, value: u32) -> bool
+    ensures { λ r. ⌜ r ≡ paper.outside least most value ⌝ }
+{
+    if value < least {
+        return true;
+    }
+    most < value
+}
+
+// "from a clock (1,000,000 to 60,000,000 Hz) and a wanted rate (1 to 230,400)", for any two numbers.
+pub fn choose(clock: u32, wanted: u32) -> Choosing
+    ensures { λ r. ⌜ r ≡ paper.choose clock wanted ⌝ }
+{
+    if is_outside(1000000, 60000000, clock) {
+        return Choosing::Unchosen(Refusal::OutsideRange);
+    }
+    if is_outside(1, 230400, wanted) {
+        return Choosing::Unchosen(Refusal::OutsideRange);
+    }
+    let clock = clock as u64;
+    let wanted = wanted as u64;
+    let kept = nearest(clock, wanted);
+    tell(clock, wanted, kept)
+}
