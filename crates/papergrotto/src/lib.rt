@@ -1,5 +1,5 @@
-// For C: the calls of a polling loop, which "lends one channel's record and finds it altered where it stands", the reader of a marked stream, and the
-// list of its confirmations. include/papergrotto.h declares them.
+// For C: the calls of a polling loop, which "lends one channel's record and finds it altered where it stands", the reader of a marked stream, the list
+// of its confirmations, and the choice of a rate. include/papergrotto.h declares them.
 ghost use mathlib.Core.List.{[]};
 ghost use mathlib.Core.Path.{_≡_};
 ghost use lib.ListN.{length};
@@ -8,9 +8,10 @@ ghost use Rattle.paper.specs.Channel as calls;
 ghost use Rattle.paper.specs.Transmitter as lines;
 ghost use Rattle.paper.specs.Stream as paper;
 ghost use Rattle.paper.specs.Confirmations as confirmations;
+ghost use Rattle.paper.specs.Rate as rates;
 ghost use Rattle.channel.specs.Held.{Sound, channelOf};
 ghost use Rattle.channel.specs.Promise.{atThreshold};
-ghost use Rattle.telling.specs.Told.{told, readingTold, listingTold};
+ghost use Rattle.telling.specs.Told.{told, readingTold, listingTold, choosingTold};
 ghost use Rattle.confirming.specs.Promise.{columns};
 ghost use Rattle.papergrotto.specs.Promise.{Promise};
 use channel::Answered;
@@ -185,4 +186,12 @@ pub extern "C" fn papergrotto_confirmations(
         (columns (now (places .entry)) (now (numbers .entry)) (now (litres .entry)) (now (judgements .entry))) .list ⌝ }
 {
     telling::tell_listing(confirming::list(stream, places, numbers, litres, judgements))
+}
+
+// 02 c, "Choosing the rate": divisor, period, and the deviation in millionths, by its size and its sign.
+#[no_mangle]
+pub extern "C" fn papergrotto_rate(clock: u32, wanted: u32) -> Told
+    ensures { λ r. ⌜ r ≡ choosingTold (rates.choose clock wanted) ⌝ }
+{
+    telling::tell_choosing(choosing::choose(clock, wanted))
 }

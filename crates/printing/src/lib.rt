@@ -2,9 +2,10 @@
 ghost use mathlib.Core.Path.{_≡_};
 ghost use mathlib.Core.List.{[], _∷_};
 ghost use Prim.Native.Nat.{_+_, _*_, _<_, _≤_};
+ghost use lib.IntN.{natAbs};
 ghost use lib.ListN.{length};
 ghost use Rattle.paper.specs.Choice.{if_then_else_};
-ghost use Rattle.paper.specs.Numbers.{fateNumber, numbers};
+ghost use Rattle.paper.specs.Numbers.{fateNumber, negative, numbers};
 ghost use Rattle.hexadecimal.specs.Written.{Wrote};
 ghost use Rattle.printing.specs.Printed.{refusalNumber, lineOf, Room, SmallRefusal, SmallRead};
 use paper::Answer;
@@ -63,6 +64,26 @@ pub fn refusal_number(refusal: Refusal) -> u8
         Refusal::TooFar => 13,
         Refusal::TooManyEntries => 16,
     }
+}
+
+// How large a deviation is, whichever its sign: the least number of 64 bits has no negative of its own.
+pub fn deviation_size(deviation: i64) -> usize
+    ensures { λ r. ⌜ r ≡ natAbs deviation ⌝ }
+{
+    if deviation < 0 {
+        return (-1 - deviation) as usize + 1;
+    }
+    deviation as usize
+}
+
+// "1 where it is negative"
+pub fn negative_number(deviation: i64) -> u8
+    ensures { λ r. ⌜ r ≡ negative deviation ⌝ }
+{
+    if deviation < 0 {
+        return 1;
+    }
+    0
 }
 
 // A refusal's line: "Answers begin with 00 or the refusal number (5 is followed by its field)", and 8 by "the place of the offending FF".

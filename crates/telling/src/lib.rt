@@ -2,8 +2,9 @@
 ghost use mathlib.Core.List.{[], _∷_};
 ghost use mathlib.Core.Path.{_≡_};
 ghost use Rattle.paper.specs.Numbers.{refusalNumbers};
-ghost use Rattle.telling.specs.Told.{told, readingTold, listingTold, laid};
+ghost use Rattle.telling.specs.Told.{told, readingTold, listingTold, choosingTold, laid};
 use paper::Answer;
+use paper::Choosing;
 use paper::Listing;
 use paper::Reading;
 use paper::Refusal;
@@ -86,5 +87,19 @@ pub fn tell_listing(listing: Listing) -> Told
     match listing {
         Listing::Listed(count, sum) => served(count, sum, 0, 0),
         Listing::Unlisted(refusal) => tell_refusal(refusal),
+    }
+}
+
+// Divisor, period, the deviation's size, and 1 where it is negative; or the refusal.
+pub fn tell_choosing(choosing: Choosing) -> Told
+    ensures { λ r. ⌜ r ≡ choosingTold choosing ⌝ }
+{
+    match choosing {
+        Choosing::Chosen(pair, deviation) => {
+            let size = printing::deviation_size(deviation);
+            let negative = printing::negative_number(deviation) as usize;
+            served(pair.divisor as usize, pair.period as usize, size, negative)
+        }
+        Choosing::Unchosen(refusal) => tell_refusal(refusal),
     }
 }
