@@ -18,7 +18,7 @@ use Rattle.demands.specs.Rates.{InRange}
 use Rattle.choosing.specs.Search.{Beside, toldOf}
 use Rattle.demands.proofs.FirstBest.{skip, spare, best-append}
 use Rattle.demands.proofs.Distances.{ordered, rises, falls}
-use Rattle.demands.proofs.Rates.{start, choice-is-kept, far-is-kept}
+use Rattle.demands.proofs.Rates.{start, by-looks, not-out-of-range}
 
 row-starts : (d k n : ℕ) → row d k (suc n) ≡ pair d k ∷ row d (suc k) n
 unfolding row
@@ -94,14 +94,7 @@ module _ (clock wanted : ℕ) (running : 1 ≤ clock) where
   unfolding pairs rows best
   by-rows = simp (best-append (ordered clock wanted running))
 
-  pub told-is-kept : (p : Pair) → p ≡ best near start pairs
-      → toldOf clock wanted p ≡ (if every (tooFar clock wanted) pairs then Unchosen TooFar else told clock wanted (choice clock wanted pairs))
-  unfolding toldOf
-  told-is-kept p e = rw (e, far-is-kept clock wanted running, choice-is-kept clock wanted running)
-
-pub chosen-is-kept : (clock wanted : ℕ) (p : Pair) → InRange clock wanted → p ≡ best (nearer clock wanted) (pair 8 1) pairs
+pub chosen-is-kept : (clock wanted : ℕ) (p : Pair) → InRange clock wanted → p ≡ best (nearer clock wanted) start pairs
     → toldOf clock wanted p ≡ choose clock wanted
-unfolding choose outOfRange
-chosen-is-kept clock wanted p s e =
-    told-is-kept clock wanted (omega arith) p e
-    ∙ rw (le-ltb clock 1000000 (s .slow), le-ltb 60000000 clock (s .fast), le-ltb wanted 1 (s .some), le-ltb 230400 wanted (s .most))
+unfolding toldOf
+chosen-is-kept clock wanted p r e = rw e (sym (by-looks clock wanted (omega (arith, r .slow)) (not-out-of-range clock wanted r)))

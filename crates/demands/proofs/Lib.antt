@@ -30,4 +30,6 @@ pub mod Confirmations
 pub mod FirstBest
 pub mod Distances
 pub mod Rates
+pub mod RateCases
+pub mod SlowRates
 pub mod Demands

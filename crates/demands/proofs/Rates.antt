@@ -16,7 +16,7 @@ use Rattle.paper.specs.Numbers.{negative}
 use Rattle.paper.specs.Rate.{pair, row, divisors, rows, pairs, divider, every, firstOf, outside, gap, nearer, unbeaten, choice, deviation, outOfRange, tooFar, told, choose}
 use Rattle.paper.specs.declared.Refusal.the-variants.{TooFar}
 use Rattle.paper.specs.declared.Pair.{Pair}
-use Rattle.paper.specs.declared.Choosing.the-variants.{Unchosen}
+use Rattle.paper.specs.declared.Choosing.the-variants.{Chosen, Unchosen}
 use Rattle.demands.specs.Confirmations.{Ascending}
 use Rattle.demands.specs.Looks.{best}
 use Rattle.demands.specs.Rates.{InRange, Allowed, Before, AtMost, Far, EveryFar, Deviates, Right, Says, outside as out, far, chosen, Rates}
@@ -41,6 +41,17 @@ in-range clock wanted e f =
       some = ltb-false _ _ (rates .0);
       most = ltb-false _ _ (rates .1);
     }
+
+pub not-out-of-range : (clock wanted : ℕ) → InRange clock wanted → outOfRange clock wanted ≡ false
+unfolding outOfRange
+not-out-of-range clock wanted r =
+    rw (le-ltb clock 1000000 (r .slow), le-ltb 60000000 clock (r .fast), le-ltb wanted 1 (r .some), le-ltb 230400 wanted (r .most))
+
+range-of : (clock wanted : ℕ) → outOfRange clock wanted ≡ false → InRange clock wanted
+unfolding outOfRange
+range-of clock wanted e =
+    let ranges = neither (outside 1000000 60000000 clock) (outside 1 230400 wanted) e in
+    in-range clock wanted (ranges .0) (ranges .1)
 
 -- WHAT IS KEPT BY SINGLE LOOKS
 
@@ -75,6 +86,13 @@ module _ (clock wanted : ℕ) (running : 1 ≤ clock) where
   pub far-is-kept : every (tooFar clock wanted) pairs ≡ tooFar clock wanted (best near start pairs)
   far-is-kept =
       rw (from-start, pairs-start) (every-best (ordered clock wanted running) (tooFar clock wanted) (far-on clock wanted running) start rest)
+
+  -- so the choice is what single looks keep, unless even that is too far
+  pub by-looks : outOfRange clock wanted ≡ false
+      → choose clock wanted
+      ≡ (if tooFar clock wanted (best near start pairs) then Unchosen TooFar else Chosen (best near start pairs) (deviation clock wanted (best near start pairs)))
+  unfolding choose
+  by-looks e = rw (e, far-is-kept, choice-is-kept)
 
 -- ROWS: a test of every pair, and the first that passes one
 
@@ -372,21 +390,9 @@ module _ (clock wanted : ℕ) (r : InRange clock wanted) where
   served false h none e = absurd (Option·none-ne-some _ (sym e ∙ choice-is-kept clock wanted running))
   served false h (some p) e = chosen r (right p e h)
 
-out-of-range : (clock wanted : ℕ) → outOfRange clock wanted ≡ true → InRange clock wanted → ⊥
-unfolding outOfRange
-out-of-range clock wanted e r =
-    true≢false
-    (sym e ∙ rw (le-ltb clock 1000000 (r .slow), le-ltb 60000000 clock (r .fast), le-ltb wanted 1 (r .some), le-ltb 230400 wanted (r .most)))
-
-not-out-of-range : (clock wanted : ℕ) → outOfRange clock wanted ≡ false → InRange clock wanted
-unfolding outOfRange
-not-out-of-range clock wanted e =
-    let ranges = neither (outside 1000000 60000000 clock) (outside 1 230400 wanted) e in
-    in-range clock wanted (ranges .0) (ranges .1)
-
 pub rates : Rates
 unfolding choose
 rates clock wanted =
     choices.chosen (Says clock wanted) (outOfRange clock wanted)
-    (λ e. out (out-of-range clock wanted e))
-    (λ e. served clock wanted (not-out-of-range clock wanted e) (every (tooFar clock wanted) pairs) refl (choice clock wanted pairs) refl)
+    (λ e. out (λ r. true≢false (sym e ∙ not-out-of-range clock wanted r)))
+    (λ e. served clock wanted (range-of clock wanted e) (every (tooFar clock wanted) pairs) refl (choice clock wanted pairs) refl)

@@ -6,5 +6,6 @@ pub mod Examples
 pub mod Confirmations
 pub mod Looks
 pub mod Rates
+pub mod RateCases
 pub mod ConfirmationCases
 pub mod Demands
