@@ -1,4 +1,4 @@
--- A row of periods in two looks, and all pairs row by row.
+-- A row of periods in two looks, all pairs row by row, and the answer.
 use mathlib.Core.Bool.{Bool, true, false}
 use mathlib.Core.List.{List, [], _∷_, _++_}
 use mathlib.Core.Option.{some}
@@ -9,10 +9,10 @@ use native.Mathlib.Numerals.{add-one}
 use native.Mathlib.Omega.{arith}
 use borrow.Author.Tests.{le-ltb}
 use Rattle.paper.specs.declared.Pair.{Pair}
-use Rattle.paper.specs.declared.Refusal.the-variants.{TooFar}
+use Rattle.paper.specs.declared.Refusal.the-variants.{OutsideRange}
 use Rattle.paper.specs.declared.Choosing.the-variants.{Unchosen}
 use Rattle.paper.specs.Choice.{if_then_else_}
-use Rattle.paper.specs.Rate.{every, pair, divider, row, rows, pairs, nearer, outOfRange, tooFar, choice, told, choose}
+use Rattle.paper.specs.Rate.{pair, row, rows, pairs, outside, nearer, outOfRange, tooFar, choose}
 use Rattle.demands.specs.Looks.{pick, best}
 use Rattle.demands.specs.Rates.{InRange}
 use Rattle.choosing.specs.Search.{Beside, toldOf}
@@ -89,10 +89,35 @@ module _ (clock wanted : ℕ) (running : 1 ≤ clock) where
           ∙ rw add-one (descends (pick near b (pair d k)) (suc k) (254 - k) beyond)
 
   -- all pairs, row by row
-  pub by-rows : best near start pairs
+  by-rows : best near start pairs
       ≡ best near (best near (best near (best near (best near start (row 8 1 255)) (row 32 1 255)) (row 128 1 255)) (row 512 1 255)) (row 2048 1 255)
   unfolding pairs rows best
   by-rows = simp (best-append (ordered clock wanted running))
+
+  pub five-rows : (a b c d e : Pair)
+      → a ≡ best near start (row 8 1 255) → b ≡ best near a (row 32 1 255) → c ≡ best near b (row 128 1 255) → d ≡ best near c (row 512 1 255)
+      → e ≡ best near d (row 2048 1 255) → e ≡ best near start pairs
+  five-rows a b c d e first second third fourth fifth = rw (fifth, fourth, third, second, first, by-rows)
+
+-- ONE LOOK
+
+pub nearer-seen : (clock wanted : ℕ) (kept seen : Pair) → nearer clock wanted seen kept ≡ true → seen ≡ pick (nearer clock wanted) kept seen
+unfolding pick
+nearer-seen clock wanted kept seen e = rw e
+
+pub no-nearer : (clock wanted : ℕ) (kept seen : Pair) → nearer clock wanted seen kept ≡ false → kept ≡ pick (nearer clock wanted) kept seen
+unfolding pick
+no-nearer clock wanted kept seen e = rw e
+
+-- THE ANSWER
+
+pub clock-outside : (clock wanted : ℕ) → outside 1000000 60000000 clock ≡ true → Unchosen OutsideRange ≡ choose clock wanted
+unfolding choose outOfRange
+clock-outside clock wanted e = rw e
+
+pub rate-outside : (clock wanted : ℕ) → outside 1000000 60000000 clock ≡ false → outside 1 230400 wanted ≡ true → Unchosen OutsideRange ≡ choose clock wanted
+unfolding choose outOfRange
+rate-outside clock wanted e f = rw (e, f)
 
 pub chosen-is-kept : (clock wanted : ℕ) (p : Pair) → InRange clock wanted → p ≡ best (nearer clock wanted) start pairs
     → toldOf clock wanted p ≡ choose clock wanted

@@ -40,6 +40,9 @@ plain-fits n most = record { sfits = omega arith }
 plain : (n : ℕ) → n ≤ mostTimes → toZ w64 n ≡ pos n
 plain n most = toZ-ofZ (plain-fits n most)
 
+pub times-some : (wanted divider n : ℕ) → 1 ≤ wanted → 1 ≤ divider → n ≡ divider → 0 < wanted * n
+times-some wanted divider n some least e = rw e (omega (arith, mul-le-mul some least))
+
 -- the steps as the machine makes them: each result is stored as bits and read again
 module _ (clock wanted n : ℕ) (s : InRange clock wanted) (most : n ≤ mostDivider) where
   abbrev times : ℕ

@@ -1,8 +1,14 @@
--- The whole part of clock over step, held to 1 to 255.
+-- The products that are compared, and the whole part of clock over step, held to 1 to 255.
 use Prim.Native.Nat.{ℕ, zero, suc, _+_, _*_, _/_, _≤_, _<_}
-use native.Mathlib.Nat.{mul-le-mul-right, div-mul-le-self, lt-div-mul-add}
+use native.Mathlib.Nat.{mul-le-mul, mul-le-mul-right, div-mul-le-self, lt-div-mul-add}
 use native.Mathlib.Omega.{arith}
-use Rattle.choosing.specs.Search.{Beside}
+use mir.Syntax.{w64}
+use mir.Val.{Fits}
+use Rattle.choosing.specs.Search.{Beside, mostDivider, mostTimes}
+
+-- a distance times a divider: below 2 ^ 56
+pub product-fits : (gap n : ℕ) → gap ≤ mostTimes → n ≤ mostDivider → Fits w64 (gap * n)
+product-fits gap n less few = record { fits = omega (arith, mul-le-mul less few) }
 
 module _ (clock step : ℕ) (some : 1 ≤ step) where
   abbrev whole : ℕ

@@ -1,20 +1,20 @@
 use mathlib.Core.Path.{sym, _∙_}
 use borrow.Author.Needs.{needs}
-use Rattle.paper.specs.Rate.{choose, outOfRange}
 use Rattle.demands.proofs.Rates.{in-range}
-use Rattle.choosing.proofs.Rows.{chosen-is-kept}
+use Rattle.choosing.proofs.Rows.{clock-outside, rate-outside, chosen-is-kept}
 use Rattle.choosing.proofs.choose.Statement.{statement}
 use Rattle.choosing.proofs.choose.Tie as tie
 
 returns : tie.Need-returns
-unfolding choose outOfRange
-returns c = rw (← c .before .is-outside .ensures, c .if1 .taken)
+returns c =
+    let a = c .before .before .args in
+    clock-outside (a .clock) (a .wanted) (sym (c .before .is-outside .ensures) ∙ c .if1 .taken)
 
 returns-2 : tie.Need-returns-2
-unfolding choose outOfRange
 returns-2 c =
+    let a = c .before .before .before .before .args in
     let first = c .before .before .before .is-outside in
-    rw (← first .ensures, c .before .before .if1 .left, ← c .before .is-outside2 .ensures, c .if2 .taken)
+    rate-outside (a .clock) (a .wanted) (sym (first .ensures) ∙ c .before .before .if1 .left) (sym (c .before .is-outside2 .ensures) ∙ c .if2 .taken)
 
 nearest-requires : tie.Need-nearest-requires
 nearest-requires c κs =

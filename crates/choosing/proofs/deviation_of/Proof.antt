@@ -1,9 +1,8 @@
 use mathlib.Core.Path.{_∙_}
-use native.Mathlib.Nat.{mul-le-mul}
 use native.Mathlib.Omega.{arith}
 use borrow.Author.Needs.{needs}
 use Rattle.paper.specs.Rate.{deviation}
-use Rattle.choosing.proofs.Signed.{times-most, times-fit, minus-fits, product-fits, quotient-fits, deviates}
+use Rattle.choosing.proofs.Signed.{times-some, times-most, times-fit, minus-fits, product-fits, quotient-fits, deviates}
 use Rattle.choosing.proofs.deviation_of.Statement.{statement}
 use Rattle.choosing.proofs.deviation_of.Tie as tie
 
@@ -20,10 +19,11 @@ mul-result : tie.Need-mul-result
 mul-result c = product-fits _ _ _ (c .before .pre .0) (c .divider-of .ensures .1)
 
 div-result : tie.Need-div-result
-div-result c = (
-  rw (c .divider-of .ensures .0) (omega (arith, mul-le-mul (c .before .pre .0 .some) (c .before .pre .1 .some))),
-  quotient-fits _ _ _ (c .before .pre .0) (c .divider-of .ensures .1),
-)
+div-result c =
+    let d = c .divider-of in (
+      times-some _ _ _ (c .before .pre .0 .some) (c .before .pre .1 .some) (d .ensures .0),
+      quotient-fits _ _ _ (c .before .pre .0) (d .ensures .1),
+    )
 
 returns : tie.Need-returns
 unfolding deviation

@@ -1,15 +1,14 @@
-use native.Mathlib.Nat.{mul-le-mul}
-use native.Mathlib.Omega.{arith}
 use borrow.Author.Needs.{needs}
 use Rattle.paper.specs.Rate.{nearer}
+use Rattle.choosing.proofs.Whole.{product-fits}
 use Rattle.choosing.proofs.is_nearer.Statement.{statement}
 use Rattle.choosing.proofs.is_nearer.Tie as tie
 
 mul-result : tie.Need-mul-result
-mul-result c = omega (arith, mul-le-mul (c .before .gap-of .ensures .1) (c .before .before .divider-of2 .ensures .1))
+mul-result c = product-fits _ _ (search needs) (search needs)
 
 mul-result-2 : tie.Need-mul-result-2
-mul-result-2 c = omega (arith, mul-le-mul (c .gap-of2 .ensures .1) (c .before .before .before .divider-of .ensures .1))
+mul-result-2 c = product-fits _ _ (search needs) (search needs)
 
 returns : tie.Need-returns
 unfolding nearer

@@ -1,7 +1,6 @@
-use mathlib.Core.Path.{_∙_, sym}
 use native.Mathlib.Omega.{arith}
 use borrow.Author.Needs.{needs}
-use Rattle.choosing.proofs.Rows.{by-rows}
+use Rattle.choosing.proofs.Rows.{five-rows}
 use Rattle.choosing.proofs.nearest.Statement.{statement}
 use Rattle.choosing.proofs.nearest.Tie as tie
 
@@ -13,13 +12,9 @@ returns c =
     let first = c .before .before .before .before in
     let a = c .before .before .before .before .before in
     record {
-      is = rw (
-        by-rows (a .args .clock) (a .args .wanted) (omega arith),
-        ← first .look-along .ensures .is,
-        ← second .look-along2 .ensures .is,
-        ← third .look-along3 .ensures .is,
-        ← fourth .look-along4 .ensures .is,
-      ) (c .look-along5 .ensures .is);
+      is = five-rows (a .args .clock) (a .args .wanted) (omega arith) _ _ _ _ _
+          (first .look-along .ensures .is) (second .look-along2 .ensures .is) (third .look-along3 .ensures .is) (fourth .look-along4 .ensures .is)
+          (c .look-along5 .ensures .is);
       fits = c .look-along5 .ensures .fits;
     }
 
