@@ -1,5 +1,5 @@
 /* papergrotto.h: all that C may call. One serial channel in software, for the firmware of the box,
- * the reader of marked streams, and the list of the confirmations in one.
+ * the reader of marked streams, the list of the confirmations in one, and the choice of a rate.
  *
  * A polling loop keeps a record for each channel and lends it to these functions, which alter it
  * where it stands. Each is proved to give, for every input, the answer and the next record that the
@@ -7,7 +7,7 @@
  *
  * To link: 'rt staticlib papergrotto' proves the library and writes target/staticlib/libpapergrotto.a, for
  * x86-64 and with the C library. examples/polling.c is a loop to begin with, examples/confirmations.c
- * a yield sheet.
+ * a yield sheet, examples/rate.c what goes into the registers of a rate.
  *
  * WHAT C MUST KEEP. A proof begins where its call begins, and takes for granted:
  *
@@ -20,8 +20,8 @@
  *     bytes, or numbers of its type, stand there. What is lent to one call does not overlap: neither
  *     two buffers, nor a buffer and the record.
  *
- * Nothing else. A bad kind, count, place, setting, special or CTS is refused by its number, and
- * then the record and all lent bytes are as they were.
+ * Nothing else. A bad kind, count, place, setting, special, CTS, clock or rate is refused by its
+ * number, and then the record and all lent bytes are as they were.
  */
 #ifndef PAPERGROTTO_H
 #define PAPERGROTTO_H
@@ -86,7 +86,7 @@ struct papergrotto_told {
 };
 
 /* "Refusal numbers". A record is lent without a channel's number, so 1 does not occur; 11 is the
- * frame program's. 16 is of the list of confirmations. */
+ * frame program's. 12 and 13 are of the choice of a rate, 16 of the list of confirmations. */
 enum papergrotto_refusal {
     PAPERGROTTO_SERVED = 0,
     PAPERGROTTO_BAD_KIND = 2,       /* kind above 3 */
@@ -100,6 +100,8 @@ enum papergrotto_refusal {
     PAPERGROTTO_BROKEN_STREAM = 8,  /* broken stream; values[0] is the place of the offending FF */
     PAPERGROTTO_SHORT_OUTPUT = 9,   /* either output shorter than the input */
     PAPERGROTTO_BAD_CTS = 10,       /* CTS neither 0 nor 1 */
+    PAPERGROTTO_OUTSIDE_RANGE = 12, /* clock or rate outside its range */
+    PAPERGROTTO_TOO_FAR = 13,       /* every pair is more than 25,000 millionths away */
     PAPERGROTTO_TOO_MANY_ENTRIES = 16   /* more entries than the lent list has places */
 };
 
@@ -197,6 +199,16 @@ struct papergrotto_told papergrotto_confirmations(const uint8_t *stream, size_t 
                                                   uint16_t *numbers, size_t numbers_length,
                                                   uint32_t *litres, size_t litres_length,
                                                   uint8_t *judgements, size_t judgements_length);
+
+/* ---- what a fitter asks ---- */
+
+/* "Choosing the rate": of the divisors 8, 32, 128, 512 and 2048 and the periods 1 to 255 the pair whose
+ * rate, the clock over divisor times period, is nearest to the wanted one; of two that are as near, the
+ * smaller divisor, then the smaller period. The clock is in Hz, 1,000,000 to 60,000,000, the rate 1 to
+ * 230,400. values[0]: the divisor; values[1]: the period; values[2] and values[3]: by how many millionths
+ * of the wanted rate the real one deviates, cut toward zero, and 1 where it is below. Refusals 12 and
+ * 13, in this order. */
+struct papergrotto_told papergrotto_rate(uint32_t clock, uint32_t wanted);
 
 #ifdef __cplusplus
 }

@@ -116,7 +116,7 @@ def generated(*words):
 
 
 def answers(form, trace):
-    """What the reference answers, in the form 'frames', 'reads', 'stream' or 'confirmations': a line for each line."""
+    """What the reference answers, in the form 'frames', 'reads', 'stream', 'confirmations', 'rates' or 'rate-lines': a line for each line."""
     written = reference(form, given=trace)
     if written.count(b'\n') != lines_in(trace):
         sys.exit(f'the reference failed: {form} gave {lines_in(written)} answers to {lines_in(trace)} lines')

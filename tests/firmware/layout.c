@@ -1,6 +1,6 @@
 /* Compares the header with the compiled library: calls alter a record, and every field must then be
  * found where the header says that it stands; and each fate, each judgement of a confirmation and the
- * refusals of their list must have the header's numbers. The last line is 'N passed, M failed'. */
+ * refusals of their list and of the choice of a rate must have the header's numbers. The last line is 'N passed, M failed'. */
 #include "papergrotto.h"
 
 #include <stdalign.h>
@@ -169,6 +169,20 @@ static void confirmations(void)
     EXPECT(judgements[3] == PAPERGROTTO_SET_ASIDE);
 }
 
+/* the request's own case, one that is below the wanted rate, and both refusals */
+static void rates(void)
+{
+    struct papergrotto_told told = papergrotto_rate(25000000, 9600);
+
+    EXPECT(told.refusal == PAPERGROTTO_SERVED && told.values[0] == 32 && told.values[1] == 81);
+    EXPECT(told.values[2] == 4693 && told.values[3] == 0);
+    told = papergrotto_rate(25000000, 19200);
+    EXPECT(told.refusal == PAPERGROTTO_SERVED && told.values[0] == 8 && told.values[1] == 163);
+    EXPECT(told.values[2] == 1469 && told.values[3] == 1);
+    EXPECT(papergrotto_rate(60000001, 9600).refusal == PAPERGROTTO_OUTSIDE_RANGE);
+    EXPECT(papergrotto_rate(25000000, 230400).refusal == PAPERGROTTO_TOO_FAR);
+}
+
 int main(void)
 {
     sizes();
@@ -177,6 +191,7 @@ int main(void)
     transmitter_and_flags();
     fates();
     confirmations();
+    rates();
     printf("%d passed, %d failed\n", passed, failed);
     return failed != 0;
 }

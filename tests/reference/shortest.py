@@ -3,6 +3,7 @@ import contextlib
 import time
 
 PATIENCE = 60           # the seconds after which shortest_stream leaves out no more: what needs thousands of confirmations would take it hours
+NUMBER = 'there is another number of answers than of cases'
 
 
 def lines_of(data):
@@ -55,13 +56,25 @@ def shortest_trace(data, asked, answering):
         yield f'{shown(line)}  {one}  {other}' + ('  <--' if one != other else '')
 
 
+def first_case(cases, ours, theirs):
+    """The first case with other answers, and both of them; none where there is only another number of answers."""
+    lines = zip(*(lines_of(text)[0] for text in (cases, ours, theirs)))
+    return next((found for found in lines if found[1] != found[2]), None)
+
+
+def shown_case(cases, ours, theirs, *_):
+    """Its first difference, as it stands."""
+    found = first_case(cases, ours, theirs)
+    yield '{}: the program {}, the reference {}'.format(*map(bytes.decode, found)) if found else NUMBER
+
+
 def shortest_case(cases, ours, theirs, asked, answering):
     """One stream behind the lengths of what is lent: its first difference, with bytes left out as long as the answers differ."""
-    lines = zip(*(lines_of(text)[0] for text in (cases, ours, theirs)))
-    case = next((case for case, one, other in lines if one != other), None)
-    if case is None:
-        yield 'there is another number of answers than of cases'
+    found = first_case(cases, ours, theirs)
+    if found is None:
+        yield NUMBER
         return
+    case = found[0]
     *lengths, digits = case.split(b' ')
     stream = [digits[at:at + 2] for at in range(0, len(digits), 2)] if digits != b'-' else []
 

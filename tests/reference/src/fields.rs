@@ -1,5 +1,5 @@
-//! What the stream form, the reads form and the confirmations form share: bytes
-//! and numbers as fields of a line, and the lent buffers.
+//! What the stream form, the reads form, the confirmations form and the two forms
+//! of rates share: bytes and numbers as fields of a line, and the lent buffers.
 
 use crate::frames::write_hexadecimal;
 

@@ -1,12 +1,12 @@
 //! The command line of the reference: the frame program, its account, the
-//! stream form, the reads form, the confirmations form and the listing, and the
-//! generators of random input for each.
+//! stream form, the reads form, the confirmations form and the listing, the rates
+//! form and the fitters' rate lines, and the generators of random input for each.
 
 use reference::fields::{bytes_of_field, write_field, FILLING};
 use reference::generate::merges::{self, Merge};
 use reference::generate::{self, streams, Profile};
 use reference::stream::{clean_front, read_stream, StreamRefusal};
-use reference::{account, confirmations, frames, reads};
+use reference::{account, confirmations, fitters, frames, rate, reads};
 use std::io::{self, Read, Write};
 use std::process::ExitCode;
 
@@ -16,12 +16,16 @@ const USAGE: &str = "usage: reference frames
        reference reads
        reference confirmations
        reference listing
+       reference rates
+       reference rate-lines
        reference generate PROFILE SEED LINES
        reference streams SEED LINES
        reference generate-reads SEED LINES
        reference generate-merge SEED LINES WHICH
        reference generate-confirmations SEED LINES
        reference generate-listing SEED BYTES
+       reference generate-rates SEED LINES
+       reference generate-rate-words SEED LINES
 profiles: mixed full marks flow turns settings refused lines picks
 WHICH: 1 or 2";
 
@@ -52,6 +56,8 @@ fn run(arguments: &[String], output: &mut Vec<u8>) -> Result<(), String> {
         ["reads"] => reads::program(&standard_input()?, output)?,
         ["confirmations"] => confirmations::program(&standard_input()?, output)?,
         ["listing"] => output.extend(confirmations::listing(&standard_input()?).bytes()),
+        ["rates"] => rate::program(&standard_input()?, output)?,
+        ["rate-lines"] => fitters::program(&standard_input()?, output)?,
         _ => output.extend(generated(&words)?),
     }
     Ok(())
@@ -76,6 +82,11 @@ fn generated(words: &[&str]) -> Result<Vec<u8>, String> {
         ["generate-listing", seed, bytes] => Ok(generate::confirmations::long_stream(
             number(seed)?,
             size(bytes)?,
+        )),
+        ["generate-rates", seed, lines] => Ok(generate::rates::cases(number(seed)?, size(lines)?)),
+        ["generate-rate-words", seed, lines] => Ok(generate::rate_words::command_lines(
+            number(seed)?,
+            size(lines)?,
         )),
         _ => Err(USAGE.to_string()),
     }

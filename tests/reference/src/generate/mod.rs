@@ -1,6 +1,7 @@
 //! Seeded random traces for the frame program and the reads form, merges of
-//! the ports' frames, cases for the stream form and the confirmations form, and
-//! long streams of confirmations.
+//! the ports' frames, cases for the stream form, the confirmations form and the
+//! rates form, long streams of confirmations, and command lines for the fitters'
+//! program.
 //!
 //! The generator keeps its idea of the traffic in a reference card that gets
 //! every line it writes.
@@ -10,6 +11,9 @@ pub mod confirmations;
 mod lines;
 pub mod merges;
 mod plans;
+mod rate_edges;
+pub mod rate_words;
+pub mod rates;
 pub mod reads;
 mod settings;
 mod single;
