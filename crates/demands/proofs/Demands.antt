@@ -3,7 +3,8 @@ use Rattle.demands.specs.Demands.{Demands}
 use Rattle.demands.proofs.Examples.{ranges, crossed, table, damaged-table, endings, loss-stays, read-cases, reader-cases, end-cases, number-cases, whole-case, transmit-case, queue-case, held-case, nothing-stored-case, implied-xon-case, literal-mark-case, line-case, refusal-case, order-cases, merge-case, two-hosts, excepted}
 use Rattle.demands.proofs.ConfirmationCases.{judged-cases, aside-cases, run-cases, form-cases, confirm-cases, the-scale, yield-cases}
 use Rattle.demands.proofs.Rates.{rates}
-use Rattle.demands.proofs.RateCases.{choice-cases, tie-cases, rate-refusal-cases, choosing-number-cases, word-cases, rate-text-cases}
+use Rattle.demands.proofs.RateCases.{choice-cases, tie-cases, rate-refusal-cases}
+use Rattle.demands.proofs.RateTextCases.{choosing-number-cases, word-cases, rate-text-cases, usual-rate-cases}
 use Rattle.demands.proofs.SlowRates.{slow-rate-cases}
 use Rattle.demands.proofs.Confirmations.{confirmations}
 use Rattle.demands.proofs.Reader.{reader, reader-call, clean-front}
@@ -61,6 +62,7 @@ demands =
       choosing-number-cases = choosing-number-cases;
       word-cases = word-cases;
       rate-text-cases = rate-text-cases;
+      usual-rate-cases = usual-rate-cases;
       reader = reader;
       reader-call = reader-call;
       clean-front = clean-front;

@@ -31,5 +31,6 @@ pub mod FirstBest
 pub mod Distances
 pub mod Rates
 pub mod RateCases
+pub mod RateTextCases
 pub mod SlowRates
 pub mod Demands

@@ -1,18 +1,12 @@
--- Request c's cases, by computation over the definitions: the choice looks at all 1275 pairs.
+-- Request c's cases of the choice, by computation over the definitions: all 1275 pairs are looked at.
 use mathlib.Core.Path.{refl}
-use Rattle.paper.specs.Decimal.{digit, numberOf, decimal}
 use Rattle.paper.specs.Rate.{row, rows, pairs, every, firstOf, gap, nearer, deviation, outOfRange, tooFar, choose}
-use Rattle.paper.specs.RateLines.{refusedWords, choiceWords, rateLine, rateText}
-use Rattle.demands.specs.RateCases.{ChoiceCases, TieCases, RateRefusalCases, SlowRateCases, ChoosingNumberCases, WordCases, RateTextCases}
+use Rattle.demands.specs.RateCases.{ChoiceCases, TieCases, RateRefusalCases}
 
 -- what the cases compute with: to unfold one of these names is to unfold all that its own line names
 computed : Unit {0}
 unfolding row rows pairs every firstOf gap nearer deviation outOfRange tooFar choose
 computed = tt
-
-printed : Unit {0}
-unfolding computed digit numberOf decimal refusedWords choiceWords rateLine rateText
-printed = tt
 
 pub choice-cases : ChoiceCases
 unfolding computed
@@ -23,6 +17,7 @@ choice-cases =
       exact = refl;
       just-above = refl;
       just-below = refl;
+      as-fractions = refl;
       first-pair = refl;
     }
 
@@ -53,46 +48,4 @@ rate-refusal-cases =
       edge-below = refl;
       past-below = refl;
       too-slow = refl;
-    }
-
-pub choosing-number-cases : ChoosingNumberCases
-choosing-number-cases =
-    record {
-      above = refl;
-      below = refl;
-      exact = refl;
-      outside = refl;
-      too-far = refl;
-    }
-
-pub word-cases : WordCases
-unfolding digit numberOf
-word-cases =
-    record {
-      plain = refl;
-      zero = refl;
-      leading-zeros = refl;
-      most = refl;
-      too-large = refl;
-      far-too-large = refl;
-      empty = refl;
-      signed = refl;
-      letter-behind = refl;
-      below-digits = refl;
-      above-digits = refl;
-      space = refl;
-    }
-
-pub rate-text-cases : RateTextCases
-unfolding printed
-rate-text-cases =
-    record {
-      none = refl;
-      signs = refl;
-      exact = refl;
-      refused = refl;
-      as-it-came = refl;
-      bad-clock = refl;
-      usual = refl;
-      further = refl;
     }

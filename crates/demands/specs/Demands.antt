@@ -33,7 +33,7 @@ use Rattle.demands.specs.Examples.{Ranges, Crossed, Table, DamagedTable,
 use Rattle.demands.specs.ConfirmationCases.{JudgedCases, AsideCases, RunCases, FormCases, ConfirmCases, TheScale, YieldCases}
 use Rattle.demands.specs.Confirmations.{Confirmations}
 use Rattle.demands.specs.Rates.{Rates}
-use Rattle.demands.specs.RateCases.{ChoiceCases, TieCases, RateRefusalCases, SlowRateCases, ChoosingNumberCases, WordCases, RateTextCases}
+use Rattle.demands.specs.RateCases.{ChoiceCases, TieCases, RateRefusalCases, SlowRateCases, ChoosingNumberCases, WordCases, RateTextCases, UsualRateCases}
 use Rattle.demands.specs.Marks.{characterOf, stream, Accepts, FirstBroken}
 use Rattle.demands.specs.History.{isRefused, callsOn, port, history, after, events, Marking, sinceReset, queueHistory, NoReset, handed, bytesFound, stored, lost, gathered, TransmitEntry, goesAs, transmitHistory, between, Before, befores, numbered, Each, NoWorse, NoPick}
 use Rattle.demands.specs.Conditions.{conditions, FirstDue}
@@ -365,6 +365,7 @@ pub record Demands : Type 1 where
   pub choosing-number-cases : ChoosingNumberCases
   pub word-cases : WordCases
   pub rate-text-cases : RateTextCases
+  pub usual-rate-cases : UsualRateCases
   pub refusals : Refusals
   pub lines : Lines
   pub text-lines : TextLines

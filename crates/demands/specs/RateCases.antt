@@ -24,6 +24,8 @@ pub record ChoiceCases : Type 0 where
   pub exact : choose 20275200 38400 ≡ Chosen (pair 8 66) (pos 0)
   pub just-above : choose 20275201 38400 ≡ Chosen (pair 8 66) (pos 0)
   pub just-below : choose 20275199 38400 ≡ Chosen (pair 8 66) (pos 0)
+  -- "compared as exact fractions": 6258.006 is 149.006 above, 5960.006 is 148.994 below, though 8 x 20 is nearer to 1,001,281 / 6109 than 8 x 21
+  pub as-fractions : choose 1001281 6109 ≡ Chosen (pair 8 21) (negsuc 24388)
   -- the first pair: 1,000,000 / 8
   pub first-pair : choose 1000000 125000 ≡ Chosen (pair 8 1) (pos 0)
 
@@ -100,10 +102,13 @@ pub record RateTextCases : Type 0 where
   pub as-it-came : rateText (text "25000000" ∷ text "0038400" ∷ text "9600 baud" ∷ [] ∷ text "4294976896" ∷ [])
       ≡ text "0038400 8 81 +4693\n9600 baud refused 12\n refused 12\n4294976896 refused 12\n"
   pub bad-clock : rateText (text "25MHz" ∷ text "9600" ∷ []) ≡ text "9600 refused 12\n"
+  -- a refusal's further number stands behind its own
+  pub further : refusedWords (BadField 4) ≡ text "refused 5 4"
+
+-- the clock alone
+pub record UsualRateCases : Type 0 where
   pub usual : rateText (text "25000000" ∷ [])
       ≡ rateText (text "25000000"
       ∷ text "50" ∷ text "75" ∷ text "110" ∷ text "150" ∷ text "300" ∷ text "600" ∷ text "1200" ∷ text "1800" ∷ text "2400" ∷ text "3600"
       ∷ text "4800" ∷ text "7200" ∷ text "9600" ∷ text "14400" ∷ text "19200" ∷ text "28800" ∷ text "38400" ∷ text "57600" ∷ text "115200"
       ∷ text "230400" ∷ [])
-  -- a refusal's further number stands behind its own
-  pub further : refusedWords (BadField 4) ≡ text "refused 5 4"
