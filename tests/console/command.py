@@ -31,7 +31,7 @@ exit "$(cat status)"
 ''',
     TOOLCHAIN + '/lib/ld-linux-x86-64.so.2': '#!/bin/sh\nshift 2\nexec "$@"\n',
 }
-LIST = 'usage: papergrotto PROGRAM < INPUT\n  echo          gives back what it reads.\n'
+LIST = 'usage: papergrotto PROGRAM [WORD...] < INPUT\n  echo          gives back what it reads.\n'
 FIRST = 'papergrotto: proving and linking echo first; crates: 3\n'
 
 
@@ -96,6 +96,13 @@ def proves_first(repository):
     repository.gives('echo', given=every, written=every, said=said)
 
 
+def hands_on_its_words(repository):
+    """To the program, as they came."""
+    repository.write(TOOLCHAIN + '/lib/ld-linux-x86-64.so.2', '#!/bin/sh\nshift 3\nfor word; do echo "<$word>"; done\n')
+    repository.rt_says('', 0)
+    repository.gives('echo', 'one', '', '-h', 'two words', '*', said=FIRST, written='<one>\n<>\n<-h>\n<two words>\n<*>\n')
+
+
 def says_as_it_comes(repository):
     repository.write('hold', '')
     process = repository.started('echo')
@@ -130,6 +137,7 @@ def in_a_repository(test):
 TESTS = [
     ('papergrotto lists the programs, and refuses what is none', in_a_repository(lists)),
     ('papergrotto proves a program first, and where it changed', in_a_repository(proves_first)),
+    ('papergrotto hands its words on to the program', in_a_repository(hands_on_its_words)),
     ('papergrotto says how far it has come while rt still runs', in_a_repository(says_as_it_comes)),
     ('papergrotto shows what is not proved, and runs nothing', in_a_repository(shows_what_is_not_proved)),
     ('papergrotto uses the emulator where there is one', in_a_repository(emulates)),

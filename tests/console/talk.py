@@ -16,8 +16,8 @@ command = []        # what starts the program
 started = []        # what this test started, ended after it if need be
 
 
-def start(stdin=subprocess.PIPE, stdout=subprocess.PIPE, before=None):
-    process = subprocess.Popen(command, stdin=stdin, stdout=stdout, stderr=subprocess.PIPE, bufsize=0, preexec_fn=before,
+def start(stdin=subprocess.PIPE, stdout=subprocess.PIPE, before=None, arguments=()):
+    process = subprocess.Popen([*command, *arguments], stdin=stdin, stdout=stdout, stderr=subprocess.PIPE, bufsize=0, preexec_fn=before,
                                start_new_session=True)
     started.append(process)
     return process
