@@ -13,12 +13,12 @@ use Rattle.paper.specs.declared.Refusal.the-variants.{OutsideRange}
 use Rattle.paper.specs.declared.Choosing.the-variants.{Unchosen}
 use Rattle.paper.specs.Choice.{if_then_else_}
 use Rattle.paper.specs.Rate.{pair, row, rows, pairs, outside, nearer, outOfRange, tooFar, choose}
-use Rattle.demands.specs.Looks.{pick, best}
-use Rattle.demands.specs.Rates.{InRange}
+use Rattle.rates.specs.Looks.{pick, best}
+use Rattle.rates.specs.Rates.{InRange}
 use Rattle.choosing.specs.Search.{Beside, toldOf}
-use Rattle.demands.proofs.FirstBest.{skip, spare, best-append}
-use Rattle.demands.proofs.Distances.{ordered, rises, falls}
-use Rattle.demands.proofs.Rates.{start, by-looks, not-out-of-range}
+use Rattle.rates.proofs.FirstBest.{skip, spare, best-append}
+use Rattle.rates.proofs.Distances.{ordered, rises, falls}
+use Rattle.rates.proofs.Rates.{start, by-looks, not-out-of-range}
 
 row-starts : (d k n : ℕ) → row d k (suc n) ≡ pair d k ∷ row d (suc k) n
 unfolding row

@@ -10,7 +10,7 @@ use lib.Signed.{mag, quotZ}
 use mir.Facts.{toZ-ofZ}
 use mir.Syntax.{w64}
 use mir.Val.{SFits, toZ, ofZ}
-use Rattle.demands.specs.Rates.{InRange}
+use Rattle.rates.specs.Rates.{InRange}
 use Rattle.choosing.specs.Search.{mostDivider, mostTimes}
 
 mag-minus : (c t m : ℕ) → c ≤ m → t ≤ m → mag (pos c -ℤ pos t) ≤ m

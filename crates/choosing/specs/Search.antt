@@ -8,7 +8,7 @@ use Rattle.paper.specs.declared.Refusal.the-variants.{TooFar}
 use Rattle.paper.specs.declared.Pair.{Pair}
 use Rattle.paper.specs.declared.Choosing.{Choosing}
 use Rattle.paper.specs.declared.Choosing.the-variants.{Chosen, Unchosen}
-use Rattle.demands.specs.Looks.{best}
+use Rattle.rates.specs.Looks.{best}
 
 -- the greatest divider, 2048 times 255, and the greatest rate times it. So each product fits: a distance is at most this one, since the clock is, and a
 -- distance times a divider, or times a million, is below 2 ^ 57

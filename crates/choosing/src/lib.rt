@@ -3,8 +3,8 @@
 ghost use mathlib.Core.Path.{_≡_};
 ghost use Prim.Native.Nat.{_≤_, _*_};
 ghost use Rattle.paper.specs.Rate as paper;
-ghost use Rattle.demands.specs.Looks.{pick};
-ghost use Rattle.demands.specs.Rates.{InRange};
+ghost use Rattle.rates.specs.Looks.{pick};
+ghost use Rattle.rates.specs.Rates.{InRange};
 ghost use Rattle.choosing.specs.Search.{Held, Beside, Kept, mostDivider, mostTimes, toldOf};
 use paper::Choosing;
 use paper::Pair;

@@ -2,10 +2,6 @@
 use Rattle.demands.specs.Demands.{Demands}
 use Rattle.demands.proofs.Examples.{ranges, crossed, table, damaged-table, endings, loss-stays, read-cases, reader-cases, end-cases, number-cases, whole-case, transmit-case, queue-case, held-case, nothing-stored-case, implied-xon-case, literal-mark-case, line-case, refusal-case, order-cases, merge-case, two-hosts, excepted}
 use Rattle.demands.proofs.ConfirmationCases.{judged-cases, aside-cases, run-cases, form-cases, confirm-cases, the-scale, yield-cases}
-use Rattle.demands.proofs.Rates.{rates}
-use Rattle.demands.proofs.RateCases.{choice-cases, tie-cases, rate-refusal-cases}
-use Rattle.demands.proofs.RateTextCases.{choosing-number-cases, word-cases, rate-text-cases, usual-rate-cases}
-use Rattle.demands.proofs.SlowRates.{slow-rate-cases}
 use Rattle.demands.proofs.Confirmations.{confirmations}
 use Rattle.demands.proofs.Reader.{reader, reader-call, clean-front}
 use Rattle.demands.proofs.ReadBack.{read-back}
@@ -55,14 +51,6 @@ demands =
       confirm-cases = confirm-cases;
       the-scale = the-scale;
       yield-cases = yield-cases;
-      choice-cases = choice-cases;
-      tie-cases = tie-cases;
-      rate-refusal-cases = rate-refusal-cases;
-      slow-rate-cases = slow-rate-cases;
-      choosing-number-cases = choosing-number-cases;
-      word-cases = word-cases;
-      rate-text-cases = rate-text-cases;
-      usual-rate-cases = usual-rate-cases;
       reader = reader;
       reader-call = reader-call;
       clean-front = clean-front;
@@ -82,7 +70,6 @@ demands =
       merges = merges;
       excepted = excepted;
       confirmations = confirmations;
-      rates = rates;
       refusals = refusals;
       lines = lines;
       text-lines = text-lines;

@@ -27,10 +27,4 @@ pub mod ConfirmationEntries
 pub mod OutsideRuns
 pub mod ConfirmationCases
 pub mod Confirmations
-pub mod FirstBest
-pub mod Distances
-pub mod Rates
-pub mod RateCases
-pub mod RateTextCases
-pub mod SlowRates
 pub mod Demands

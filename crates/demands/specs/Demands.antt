@@ -32,8 +32,6 @@ use Rattle.paper.specs.Text.{text}
 use Rattle.demands.specs.Examples.{Ranges, Crossed, Table, DamagedTable, Endings, LossStays, ReadCases, ReaderCases, EndCases, NumberCases, WholeCase, TransmitCase, QueueCase, HeldCase, NothingStoredCase, ImpliedXonCase, LiteralMarkCase, LineCase, RefusalCase, OrderCases, MergeCase}
 use Rattle.demands.specs.ConfirmationCases.{JudgedCases, AsideCases, RunCases, FormCases, ConfirmCases, TheScale, YieldCases}
 use Rattle.demands.specs.Confirmations.{Confirmations}
-use Rattle.demands.specs.Rates.{Rates}
-use Rattle.demands.specs.RateCases.{ChoiceCases, TieCases, RateRefusalCases, SlowRateCases, ChoosingNumberCases, WordCases, RateTextCases, UsualRateCases}
 use Rattle.demands.specs.Marks.{characterOf, stream, Accepts, FirstBroken}
 use Rattle.demands.specs.History.{isRefused, callsOn, port, history, after, events, Marking, sinceReset, queueHistory, NoReset, handed, bytesFound, stored, lost, gathered, TransmitEntry, goesAs, transmitHistory, between, Before, befores, numbered, Each, NoWorse, NoPick}
 use Rattle.demands.specs.Conditions.{conditions, FirstDue}
@@ -358,14 +356,6 @@ pub record Demands : Type 1 where
   pub confirm-cases : ConfirmCases
   pub the-scale : TheScale
   pub yield-cases : YieldCases
-  pub choice-cases : ChoiceCases
-  pub tie-cases : TieCases
-  pub rate-refusal-cases : RateRefusalCases
-  pub slow-rate-cases : SlowRateCases
-  pub choosing-number-cases : ChoosingNumberCases
-  pub word-cases : WordCases
-  pub rate-text-cases : RateTextCases
-  pub usual-rate-cases : UsualRateCases
   pub refusals : Refusals
   pub lines : Lines
   pub text-lines : TextLines
@@ -390,4 +380,3 @@ pub record Demands : Type 1 where
   pub merges : Merges
   pub excepted : Excepted
   pub confirmations : Confirmations
-  pub rates : Rates

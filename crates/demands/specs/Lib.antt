@@ -4,8 +4,5 @@ pub mod Conditions
 pub mod Spelling
 pub mod Examples
 pub mod Confirmations
-pub mod Looks
-pub mod Rates
-pub mod RateCases
 pub mod ConfirmationCases
 pub mod Demands

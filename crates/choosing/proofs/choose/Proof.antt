@@ -1,6 +1,6 @@
 use mathlib.Core.Path.{sym, _∙_}
 use borrow.Author.Needs.{needs}
-use Rattle.demands.proofs.Rates.{in-range}
+use Rattle.rates.proofs.Rates.{in-range}
 use Rattle.choosing.proofs.Rows.{clock-outside, rate-outside, chosen-is-kept}
 use Rattle.choosing.proofs.choose.Statement.{statement}
 use Rattle.choosing.proofs.choose.Tie as tie

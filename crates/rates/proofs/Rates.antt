@@ -17,13 +17,13 @@ use Rattle.paper.specs.Rate.{pair, row, divisors, rows, pairs, divider, every, 
 use Rattle.paper.specs.declared.Refusal.the-variants.{TooFar}
 use Rattle.paper.specs.declared.Pair.{Pair}
 use Rattle.paper.specs.declared.Choosing.the-variants.{Chosen, Unchosen}
 use Rattle.demands.specs.Confirmations.{Ascending}
-use Rattle.demands.specs.Looks.{best}
-use Rattle.demands.specs.Rates.{InRange, Allowed, Before, AtMost, Far, EveryFar, Deviates, Right, Says, outside as out, far, chosen, Rates}
+use Rattle.rates.specs.Looks.{best}
+use Rattle.rates.specs.Rates.{InRange, Allowed, Before, AtMost, Far, EveryFar, Deviates, Right, Says, outside as out, far, chosen, Rates}
 use Rattle.demands.proofs.Choices as choices
 use Rattle.demands.proofs.Choices.{both}
-use Rattle.demands.proofs.FirstBest.{irrefl, stays, every-best, first-best}
-use Rattle.demands.proofs.Distances.{ordered, far-on}
+use Rattle.rates.proofs.FirstBest.{irrefl, stays, every-best, first-best}
+use Rattle.rates.proofs.Distances.{ordered, far-on}
 
 -- RANGES
 

@@ -6,7 +6,7 @@ use native.Mathlib.Nat.{mul-le-mul-right, mul-lt-mul-of-pos-right, le-of-mul-le-
 use native.Mathlib.Omega.{arith}
 use borrow.Author.Tests.{ltb-true, ltb-false, lt-ltb, le-ltb}
 use Rattle.paper.specs.declared.Pair.{Pair}
-use Rattle.demands.proofs.FirstBest.{Ordered}
+use Rattle.rates.proofs.FirstBest.{Ordered}
 use Rattle.paper.specs.Rate.{pair, divider, gap, nearer, tooFar}
 
 -- fractions a/k, b/m, c/n: what is at most b/m is at most all that b/m is at most. m may be 0 where b is not

@@ -3,9 +3,9 @@
 use mathlib.Core.Path.{_≡_, refl, _∙_}
 use native.Mathlib.Omega.{arith}
 use Rattle.paper.specs.Rate.{row, rows, pairs, gap, nearer, deviation, outOfRange, tooFar}
-use Rattle.demands.specs.Looks.{pick, best}
-use Rattle.demands.specs.RateCases.{SlowRateCases}
-use Rattle.demands.proofs.Rates.{by-looks}
+use Rattle.rates.specs.Looks.{pick, best}
+use Rattle.rates.specs.RateCases.{SlowRateCases}
+use Rattle.rates.proofs.Rates.{by-looks}
 
 pub slow-rate-cases : SlowRateCases
 unfolding row rows pairs gap nearer deviation outOfRange tooFar pick best

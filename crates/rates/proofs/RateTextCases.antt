@@ -3,7 +3,7 @@ use mathlib.Core.Path.{refl}
 use Rattle.paper.specs.Decimal.{digit, numberOf, decimal}
 use Rattle.paper.specs.Rate.{row, rows, pairs, every, firstOf, gap, nearer, deviation, outOfRange, tooFar, choose}
 use Rattle.paper.specs.RateLines.{refusedWords, choiceWords, rateLine, rateText}
-use Rattle.demands.specs.RateCases.{ChoosingNumberCases, WordCases, RateTextCases, UsualRateCases}
+use Rattle.rates.specs.RateCases.{ChoosingNumberCases, WordCases, RateTextCases, UsualRateCases}
 
 -- what a line computes with: to unfold this name is to unfold all that its own line names
 printed : Unit {0}

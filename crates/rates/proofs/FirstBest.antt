@@ -6,7 +6,7 @@ use mathlib.Core.Option.{some}
 use mathlib.Core.Path.{_≡_, refl, ap, sym, _∙_}
 use Rattle.paper.specs.Choice.{if_then_else_}
 use Rattle.paper.specs.Rate.{every, firstOf}
-use Rattle.demands.specs.Looks.{pick, best}
+use Rattle.rates.specs.Looks.{pick, best}
 
 drop-left : (x y z : Bool) → (y ≡ true → x ≡ true) → (x && (y && z)) ≡ (y && z)
 drop-left x true z h = rw (h refl)

@@ -1,0 +1,4 @@
+pub mod Looks
+pub mod Rates
+pub mod RateCases
+pub mod Demanded
