@@ -4,10 +4,14 @@ ghost use mathlib.Core.List.{_++_};
 ghost use Prim.Native.Nat.{_+_, _<_, _≤_};
 ghost use lib.ListN.{length};
 ghost use Rattle.paper.specs.Text.{text};
-ghost use Rattle.paper.specs.Decimal.{lastDigits, digitsOf, decimal};
+ghost use Rattle.paper.specs.Decimal.{decimal};
 ghost use Rattle.paper.specs.Yield.{words, judgementWords, lineOf, litresLine, brokenLine, fullLine};
 ghost use Rattle.hexadecimal.specs.Written.{Wrote};
 ghost use Rattle.sheet.specs.Lines.{Room, longestSaid, longestJudgement};
+use decimal::put_behind;
+use decimal::put_decimal;
+use decimal::put_digits;
+use decimal::put_text;
 use paper::Confirmation;
 use paper::Entry;
 use paper::Judgement;
@@ -16,63 +20,12 @@ use paper::Judgement;
 // last line is shorter: "refused 8 ", a place of 20 digits, and a newline.
 pub const LONGEST: usize = 20 + 1 + 9 + 4 + 1 + 10 + 1;
 
-// A text, from a place on; answers the place behind it, as all that put something here do.
-fn put_text(out: &mut [u8], at: usize, text: &[u8]) -> usize
-    requires { ⌜ at + length (now text) ≤ length (now out) ⌝ }
-    ensures { λ r. ⌜ Wrote (now (out .entry)) at (now (text .entry)) (now (out .exit)) r ⌝ }
-{
-    let mut i = 0;
-    while i < text.len() {
-        out[at + i] = text[i];
-        i += 1;
-    }
-    at + i
-}
-
-// How many digits a number has.
-fn digits_of(number: usize) -> usize
-    ensures { λ r. ⌜ r ≡ digitsOf number number ⌝ }
-{
-    let mut front = number;
-    let mut count = 1;
-    while 10 <= front {
-        front = front / 10;
-        count += 1;
-    }
-    count
-}
-
-// The last of so many digits of a number, from the last of their places back to the first.
-fn put_digits(out: &mut [u8], at: usize, count: usize, number: usize) -> usize
-    requires { ⌜ at + count ≤ length (now out) ⌝ }
-    ensures { λ r. ⌜ Wrote (now (out .entry)) at (lastDigits count number) (now (out .exit)) r ⌝ }
-{
-    let mut front = number;
-    let mut left = count;
-    while 0 < left {
-        left -= 1;
-        out[at + left] = 0x30 + (front % 10) as u8;
-        front = front / 10;
-    }
-    at + count
-}
-
-// Without leading zeros.
-fn put_decimal(out: &mut [u8], at: usize, number: usize) -> usize
-    requires { ⌜ at + length (decimal number) ≤ length (now out) ⌝ }
-    ensures { λ r. ⌜ Wrote (now (out .entry)) at (decimal number) (now (out .exit)) r ⌝ }
-{
-    let count = digits_of(number);
-    put_digits(out, at, count, number)
-}
-
 // A text, a number and a newline: each of the last lines, and the end of an entry's.
 fn put_line(out: &mut [u8], at: usize, told: &[u8], number: usize) -> usize
     requires { ⌜ at + length (now told) + length (decimal number) < length (now out) ⌝ }
     ensures { λ r. ⌜ Wrote (now (out .entry)) at (now (told .entry) ++ decimal number ++ text "\n") (now (out .exit)) r ⌝ }
 {
-    let start = put_text(out, at, told);
-    let end = put_decimal(out, start, number);
+    let end = put_behind(out, at, told, number);
     put_text(out, end, b"\n")
 }
 

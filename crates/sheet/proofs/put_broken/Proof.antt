@@ -1,7 +1,7 @@
 -- `sheet::put_broken` meets its contract.
 use native.Mathlib.Omega.{arith}
 use Rattle.paper.specs.Yield.{brokenLine}
-use Rattle.sheet.proofs.Digits.{decimal-few}
+use Rattle.decimal.proofs.Digits.{decimal-few}
 use borrow.Author.Needs.{needs}
 use Rattle.sheet.proofs.put_broken.Statement.{statement}
 use Rattle.sheet.proofs.put_broken.Tie as tie

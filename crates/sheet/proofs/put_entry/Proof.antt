@@ -3,7 +3,7 @@ use mathlib.Core.List.{append-assoc}
 use native.Mathlib.Omega.{arith}
 use Rattle.paper.specs.Yield.{lineOf}
 use Rattle.hexadecimal.proofs.Laws.{wrote-then}
-use Rattle.sheet.proofs.Digits.{decimal-few}
+use Rattle.decimal.proofs.Digits.{decimal-few}
 use borrow.Author.Needs.{needs}
 use Rattle.sheet.proofs.put_entry.Statement.{statement}
 use Rattle.sheet.proofs.put_entry.Tie as tie

@@ -1,7 +1,7 @@
 -- `sheet::put_full` meets its contract.
 use native.Mathlib.Omega.{arith}
 use Rattle.paper.specs.Yield.{fullLine}
-use Rattle.sheet.proofs.Digits.{decimal-few}
+use Rattle.decimal.proofs.Digits.{decimal-few}
 use borrow.Author.Needs.{needs}
 use Rattle.sheet.proofs.put_full.Statement.{statement}
 use Rattle.sheet.proofs.put_full.Tie as tie

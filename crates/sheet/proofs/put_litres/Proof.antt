@@ -1,7 +1,7 @@
 -- `sheet::put_litres` meets its contract.
 use native.Mathlib.Omega.{arith}
 use Rattle.paper.specs.Yield.{litresLine}
-use Rattle.sheet.proofs.Digits.{decimal-few}
+use Rattle.decimal.proofs.Digits.{decimal-few}
 use borrow.Author.Needs.{needs}
 use Rattle.sheet.proofs.put_litres.Statement.{statement}
 use Rattle.sheet.proofs.put_litres.Tie as tie

@@ -2,7 +2,7 @@
 use native.Mathlib.Omega.{arith}
 use Rattle.paper.specs.Yield.{words}
 use Rattle.hexadecimal.proofs.Laws.{wrote-then}
-use Rattle.sheet.proofs.Digits.{decimal-few}
+use Rattle.decimal.proofs.Digits.{decimal-few}
 use borrow.Author.Needs.{needs}
 use Rattle.sheet.proofs.put_said.Statement.{statement}
 use Rattle.sheet.proofs.put_said.Tie as tie

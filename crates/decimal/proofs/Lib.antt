@@ -1,0 +1,4 @@
+pub mod Digits
+pub mod ReadBack
+mod Texts
+mod Words

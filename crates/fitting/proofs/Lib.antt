@@ -1,0 +1,2 @@
+mod Rates
+mod Words
