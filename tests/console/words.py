@@ -15,10 +15,9 @@ CRATE = 'rate'
 WRONG = [
     Wrong('the first rate is left out', 'let mut i = 2;', 'let mut i = 3;', [], 'rate: cases by hand'),
     Wrong('the clock is listed as a rate', 'let mut i = 2;', 'let mut i = 1;', [], 'rate: cases by hand'),
-    Wrong('every second rate is left out', 'i += 1;', 'i += 2;', [], 'rate: cases by hand'),
+    Wrong('it ends behind the first rate', 'if !write_rate(', 'if write_rate(', [], 'rate: cases by hand'),
     Wrong('the clock alone shows nothing', 'if count == 2 {', 'if count == 1 {', [], 'rate: the clock alone'),
     Wrong('one rate shows the usual ones', 'if count == 2 {', 'if count == 3 {', [], 'rate: cases by hand'),
-    Wrong('a thousand words at most', 'while i < count {', 'while i < count && i < 1000 {', [], 'rate: thousands of words'),
     Wrong('it does not say how it is used', 'if count < 2 {', 'if count < 1 {', [], 'rate: no words'),
 ]
 
