@@ -50,23 +50,23 @@ def programs(words):
     return {'proved': os.path.abspath(words[0]) if words else proved(), 'plain C': plain()}
 
 
-def emulated(program, given, notes):
-    first, *loader = runner()
+def emulated(command, given, notes):
+    first, *words = command
     with open(given, 'rb') as file:
-        subprocess.run([first, '-singlestep', '-d', 'nochain,exec', '-D', notes, *loader, program],
-                       stdin=file, stdout=subprocess.DEVNULL, check=True)
+        subprocess.run([first, '-singlestep', '-d', 'nochain,exec', '-D', notes, *words], stdin=file, stdout=subprocess.DEVNULL, check=True)
     with open(notes, 'rb') as file:
         return sum(1 for _ in file)
 
 
-def by_valgrind(program, given, notes):
+def by_valgrind(command, given, notes):
     with open(given, 'rb') as file:
-        subprocess.run(['valgrind', '-q', '--tool=callgrind', '--callgrind-out-file=' + notes, *runner(), program],
+        subprocess.run(['valgrind', '-q', '--tool=callgrind', '--callgrind-out-file=' + notes, *command],
                        stdin=file, stdout=subprocess.DEVNULL, check=True)
     with open(notes, encoding='utf-8') as file:
         return int(re.search(r'^(?:summary|totals): (\d+)', file.read(), re.M)[1])
 
 
-def instructions(program, given, notes):
-    """How many instructions a run takes: by the kit's emulator on a machine that is not x86-64, where it writes down every one; elsewhere by valgrind."""
-    return (emulated if emulator() else by_valgrind)(program, given, notes)
+def instructions(program, given, notes, before=None):
+    """How many instructions a run takes: by the kit's emulator on a machine that is not x86-64, where it writes down every one; elsewhere by valgrind.
+    What stands before the program's name is the kit's loader, for one that the kit linked."""
+    return (emulated if emulator() else by_valgrind)([*(runner() if before is None else before), program], given, notes)

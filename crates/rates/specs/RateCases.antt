@@ -1,8 +1,6 @@
 -- Request c's cases, worked out by hand from its words. To be read with 02 c beside it.
 use mathlib.Core.Path.{_≡_}
-use mathlib.Core.List.{List, [], _∷_}
-use Prim.Native.Nat.{ℕ}
-use Prim.Native.String.{String}
+use mathlib.Core.List.{[], _∷_}
 use lib.IntN.{pos, negsuc}
 use Rattle.paper.specs.Text.{text}
 use Rattle.paper.specs.Numbers.{choosingNumbers}
@@ -10,7 +8,6 @@ use Rattle.paper.specs.Decimal.{numberOf}
 use Rattle.paper.specs.Rate.{pair, choose}
 use Rattle.paper.specs.RateLines.{refusedWords, rateText}
 use Rattle.paper.specs.declared.Refusal.the-variants.{OutsideRange, TooFar, BadField}
-use Rattle.paper.specs.declared.Choosing.{Choosing}
 use Rattle.paper.specs.declared.Choosing.the-variants.{Chosen, Unchosen}
 
 -- THE CHOICE
