@@ -109,7 +109,7 @@ def input_is_not_read():
 def closed_output(ignored):
     """The reader closes after the first line, with many words pending: more than a pipe holds."""
     def test():
-        process = start(arguments=('25000000', *['x' * 1000] * 1500), before=ignore if ignored else None)
+        process = start(arguments=('25000000', *['x' * 1000] * 300), before=ignore if ignored else None)
         same(answer(process), b'x' * 1000 + b' refused 12')
         process.stdout.close()
         quiet(*ended(process), CLOSED)

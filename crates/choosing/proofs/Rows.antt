@@ -7,7 +7,7 @@ use Prim.Native.Nat.{ℕ, zero, suc, _+_, _-_, _*_, _≤_, _<_}
 use native.Mathlib.Nat.{mul-le-mul-left}
 use native.Mathlib.Numerals.{add-one}
 use native.Mathlib.Omega.{arith}
-use borrow.Author.Tests.{le-ltb}
+use lib.Dec.{ltb}
 use Rattle.paper.specs.declared.Pair.{Pair}
 use Rattle.paper.specs.declared.Refusal.the-variants.{OutsideRange}
 use Rattle.paper.specs.declared.Choosing.the-variants.{Unchosen}
@@ -15,7 +15,8 @@ use Rattle.paper.specs.Choice.{if_then_else_}
 use Rattle.paper.specs.Rate.{pair, row, rows, pairs, outside, nearer, outOfRange, tooFar, choose}
 use Rattle.rates.specs.Looks.{pick, best}
 use Rattle.rates.specs.Rates.{InRange}
-use Rattle.choosing.specs.Search.{Beside, toldOf}
+use Rattle.choosing.specs.Search.{Beside, Measured, toldOf}
+use Rattle.choosing.specs.declared.Seen.{Seen}
 use Rattle.rates.proofs.FirstBest.{skip, spare, best-append}
 use Rattle.rates.proofs.Distances.{ordered, rises, falls}
 use Rattle.rates.proofs.Rates.{start, by-looks, not-out-of-range}
@@ -94,20 +95,28 @@ module _ (clock wanted : ℕ) (running : 1 ≤ clock) where
   unfolding pairs rows best
   by-rows = simp (best-append (ordered clock wanted running))
 
-  pub five-rows : (a b c d e : Pair)
-      → a ≡ best near start (row 8 1 255) → b ≡ best near a (row 32 1 255) → c ≡ best near b (row 128 1 255) → d ≡ best near c (row 512 1 255)
+  pub five-rows : (s a b c d e : Pair) → s ≡ start
+      → a ≡ best near s (row 8 1 255) → b ≡ best near a (row 32 1 255) → c ≡ best near b (row 128 1 255) → d ≡ best near c (row 512 1 255)
       → e ≡ best near d (row 2048 1 255) → e ≡ best near start pairs
-  five-rows a b c d e first second third fourth fifth = rw (fifth, fourth, third, second, first, by-rows)
+  five-rows s a b c d e begun first second third fourth fifth = rw (fifth, fourth, third, second, first, begun, by-rows)
 
 -- ONE LOOK
 
-pub nearer-seen : (clock wanted : ℕ) (kept seen : Pair) → nearer clock wanted seen kept ≡ true → seen ≡ pick (nearer clock wanted) kept seen
-unfolding pick
-nearer-seen clock wanted kept seen e = rw e
+module _ (clock wanted : ℕ) (kept seen : Seen) (p : Pair) (k : Measured clock wanted kept) (s : Measured clock wanted seen) (is : seen .pair ≡ p) where
+  abbrev test : Bool
+  test = ltb (seen .gap * kept .divider) (kept .gap * seen .divider)
 
-pub no-nearer : (clock wanted : ℕ) (kept seen : Pair) → nearer clock wanted seen kept ≡ false → kept ≡ pick (nearer clock wanted) kept seen
-unfolding pick
-no-nearer clock wanted kept seen e = rw e
+  compared : nearer clock wanted p (kept .pair) ≡ test
+  unfolding nearer
+  compared = rw (← is, k .gap, s .gap, k .divider, s .divider)
+
+  pub nearer-seen : test ≡ true → seen .pair ≡ pick (nearer clock wanted) (kept .pair) p
+  unfolding pick
+  nearer-seen e = rw (compared, e, is)
+
+  pub no-nearer : test ≡ false → kept .pair ≡ pick (nearer clock wanted) (kept .pair) p
+  unfolding pick
+  no-nearer e = rw (compared, e)
 
 -- THE ANSWER
 

@@ -2,20 +2,20 @@
 // two periods beside the exact one. Whole numbers only: the greatest product is a distance times a divider, below 2 ^ 56.
 ghost use mathlib.Core.Path.{_≡_};
 ghost use Prim.Native.Nat.{_≤_, _*_};
+ghost use lib.Dec.{ltb};
 ghost use Rattle.paper.specs.Rate as paper;
 ghost use Rattle.rates.specs.Looks.{pick};
 ghost use Rattle.rates.specs.Rates.{InRange};
-ghost use Rattle.choosing.specs.Search.{Held, Beside, Kept, mostDivider, mostTimes, toldOf};
+ghost use Rattle.choosing.specs.Search.{Held, Bounded, Measured, Beside, Kept, mostDivider, mostTimes, toldOf};
 use paper::Choosing;
 use paper::Pair;
 use paper::Refusal;
 
-// "divisor times period"
-fn divider_of(p: Pair) -> u64
-    requires { ⌜ Held p ⌝ }
-    ensures { λ r. ⌜ (r ≡ paper.divider p) × (r ≤ mostDivider) ⌝ }
-{
-    p.divisor as u64 * p.period as u64
+// A pair that was looked at, with its divider and the distance between the clock and rate times divider: each is worked out once.
+struct Seen {
+    pair: Pair,
+    divider: u64,
+    gap: u64,
 }
 
 // The distance between the clock and rate times divider.
@@ -31,29 +31,35 @@ fn gap_of(clock: u64, wanted: u64, divider: u64) -> u64
     times - clock
 }
 
-// "compared as exact fractions"
-fn is_nearer(clock: u64, wanted: u64, p: Pair, q: Pair) -> bool
+// A pair as it is looked at.
+fn see(clock: u64, wanted: u64, divisor: u32, period: u32) -> Seen
     requires { ⌜ InRange clock wanted ⌝ }
-    requires { ⌜ Held p ⌝ }
-    requires { ⌜ Held q ⌝ }
-    ensures { λ r. ⌜ r ≡ paper.nearer clock wanted p q ⌝ }
+    requires { ⌜ Held (paper.pair divisor period) ⌝ }
+    ensures { λ r. ⌜ (r .pair ≡ paper.pair divisor period) × Measured clock wanted r ⌝ }
 {
-    let divider = divider_of(p);
-    let other = divider_of(q);
+    let divider = divisor as u64 * period as u64;
     let gap = gap_of(clock, wanted, divider);
-    let other_gap = gap_of(clock, wanted, other);
-    gap * other < other_gap * divider
+    let pair = Pair { divisor, period };
+    Seen { pair, divider, gap }
+}
+
+// "compared as exact fractions"
+fn is_nearer(seen: Seen, kept: Seen) -> bool
+    requires { ⌜ Bounded seen × Bounded kept ⌝ }
+    ensures { λ r. ⌜ r ≡ ltb (seen .gap * kept .divider) (kept .gap * seen .divider) ⌝ }
+{
+    seen.gap * kept.divider < kept.gap * seen.divider
 }
 
 // A look at one pair more: "ties go to" the one before.
-fn look(clock: u64, wanted: u64, kept: Pair, divisor: u32, period: u32) -> Pair
+fn look(clock: u64, wanted: u64, kept: Seen, divisor: u32, period: u32) -> Seen
     requires { ⌜ InRange clock wanted ⌝ }
-    requires { ⌜ Held kept ⌝ }
+    requires { ⌜ Measured clock wanted kept ⌝ }
     requires { ⌜ Held (paper.pair divisor period) ⌝ }
-    ensures { λ r. ⌜ (r ≡ pick (paper.nearer clock wanted) kept (paper.pair divisor period)) × Held r ⌝ }
+    ensures { λ r. ⌜ (r .pair ≡ pick (paper.nearer clock wanted) (kept .pair) (paper.pair divisor period)) × Measured clock wanted r ⌝ }
 {
-    let seen = Pair { divisor, period };
-    if is_nearer(clock, wanted, seen, kept) {
+    let seen = see(clock, wanted, divisor, period);
+    if is_nearer(seen, kept) {
         return seen;
     }
     kept
@@ -75,12 +81,12 @@ fn beside(clock: u64, step: u64) -> u32
 }
 
 // All periods of a divisor, in two looks.
-fn look_along(clock: u64, wanted: u64, kept: Pair, divisor: u32) -> Pair
+fn look_along(clock: u64, wanted: u64, kept: Seen, divisor: u32) -> Seen
     requires { ⌜ InRange clock wanted ⌝ }
-    requires { ⌜ Held kept ⌝ }
+    requires { ⌜ Measured clock wanted kept ⌝ }
     requires { ⌜ 1 ≤ divisor ⌝ }
     requires { ⌜ divisor ≤ 2048 ⌝ }
-    ensures { λ r. ⌜ Kept clock wanted kept (paper.row divisor 1 255) r ⌝ }
+    ensures { λ r. ⌜ Kept clock wanted (kept .pair) (paper.row divisor 1 255) r ⌝ }
 {
     let period = beside(clock, wanted * divisor as u64);
     let kept = look(clock, wanted, kept, divisor, period);
@@ -91,14 +97,11 @@ fn look_along(clock: u64, wanted: u64, kept: Pair, divisor: u32) -> Pair
 }
 
 // "a divisor of 8, 32, 128, 512 or 2048"
-fn nearest(clock: u64, wanted: u64) -> Pair
+fn nearest(clock: u64, wanted: u64) -> Seen
     requires { ⌜ InRange clock wanted ⌝ }
     ensures { λ r. ⌜ Kept clock wanted (paper.pair 8 1) paper.pairs r ⌝ }
 {
-    let start = Pair {
-        divisor: 8,
-        period: 1,
-    };
+    let start = see(clock, wanted, 8, 1);
     let kept = look_along(clock, wanted, start, 8);
     let kept = look_along(clock, wanted, kept, 32);
     let kept = look_along(clock, wanted, kept, 128);
@@ -107,39 +110,38 @@ fn nearest(clock: u64, wanted: u64) -> Pair
 }
 
 // "more than 25,000 millionths away, before cutting"
-fn is_too_far(clock: u64, wanted: u64, p: Pair) -> bool
+fn is_too_far(clock: u64, wanted: u64, kept: Seen) -> bool
     requires { ⌜ InRange clock wanted ⌝ }
-    requires { ⌜ Held p ⌝ }
-    ensures { λ r. ⌜ r ≡ paper.tooFar clock wanted p ⌝ }
+    requires { ⌜ Measured clock wanted kept ⌝ }
+    ensures { λ r. ⌜ r ≡ paper.tooFar clock wanted (kept .pair) ⌝ }
 {
-    let divider = divider_of(p);
-    let gap = gap_of(clock, wanted, divider);
-    25000 * (wanted * divider) < 1000000 * gap
+    25000 * (wanted * kept.divider) < 1000000 * kept.gap
 }
 
 // "the signed deviation in millionths of the wanted rate, cut toward zero": a signed quotient, from the exact difference between clock and rate times
 // divider.
-fn deviation_of(clock: u64, wanted: u64, p: Pair) -> i64
+fn deviation_of(clock: u64, wanted: u64, kept: Seen) -> i64
     requires { ⌜ InRange clock wanted ⌝ }
-    requires { ⌜ Held p ⌝ }
-    ensures { λ r. ⌜ r ≡ paper.deviation clock wanted p ⌝ }
+    requires { ⌜ Measured clock wanted kept ⌝ }
+    ensures { λ r. ⌜ r ≡ paper.deviation clock wanted (kept .pair) ⌝ }
 {
-    let times = wanted * divider_of(p);
+    let times = wanted * kept.divider;
     let difference = clock as i64 - times as i64;
     difference * 1000000 / times as i64
 }
 
 // The pair that was kept, unless even it is too far.
-fn tell(clock: u64, wanted: u64, p: Pair) -> Choosing
+fn tell(clock: u64, wanted: u64, kept: Seen) -> Choosing
     requires { ⌜ InRange clock wanted ⌝ }
-    requires { ⌜ Held p ⌝ }
-    ensures { λ r. ⌜ r ≡ toldOf clock wanted p ⌝ }
+    requires { ⌜ Measured clock wanted kept ⌝ }
+    ensures { λ r. ⌜ r ≡ toldOf clock wanted (kept .pair) ⌝ }
 {
-    if is_too_far(clock, wanted, p) {
+    if is_too_far(clock, wanted, kept) {
         return Choosing::Unchosen(Refusal::TooFar);
     }
-    let deviation = deviation_of(clock, wanted, p);
-    Choosing::Chosen(p, deviation)
+    let deviation = deviation_of(clock, wanted, kept);
+    let pair = kept.pair;
+    Choosing::Chosen(pair, deviation)
 }
 
 // "outside its range"

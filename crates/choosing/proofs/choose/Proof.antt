@@ -22,13 +22,13 @@ nearest-requires c κs =
     in-range _ _ (sym (first .ensures) ∙ c .before .before .if1 .left) (sym (c .before .is-outside2 .ensures) ∙ c .if2 .left)
 
 tell-requires : tie.Need-tell-requires
-tell-requires c κs = (nearest-requires (c .before) κs, c .nearest .ensures .fits)
+tell-requires c κs = (nearest-requires (c .before) κs, c .nearest .ensures .measured)
 
 returns-3 : tie.Need-returns-3
 returns-3 c =
     let a = c .before .before .before .before .before .before .args in
     let found = c .before .nearest in
-    c .tell .ensures ∙ chosen-is-kept (a .clock) (a .wanted) (found .result) (nearest-requires (c .before .before) tt) (found .ensures .is)
+    c .tell .ensures ∙ chosen-is-kept (a .clock) (a .wanted) (found .result .pair) (nearest-requires (c .before .before) tt) (found .ensures .is)
 
 pub choose-spec : {M : Type 1} → statement M
 choose-spec =

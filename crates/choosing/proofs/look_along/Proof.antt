@@ -24,8 +24,8 @@ returns c =
     let found = c .before .before .beside in
     record {
       is = rw (c .before .look .ensures .0)
-          (sym (one-look (a .clock) (a .wanted) (omega arith) (a .divisor) (omega arith) (a .kept) (found .result) (omega arith) (found .ensures)));
-      fits = c .before .look .ensures .1;
+          (sym (one-look (a .clock) (a .wanted) (omega arith) (a .divisor) (omega arith) (a .kept .pair) (found .result) (omega arith) (found .ensures)));
+      measured = c .before .look .ensures .1;
     }
 
 look-requires-2 : tie.Need-look-requires-2
@@ -40,8 +40,8 @@ returns-2 c =
     let found = c .before .before .before .beside in
     record {
       is = rw (c .look2 .ensures .0, c .before .before .look .ensures .0)
-          (sym (two-looks (a .clock) (a .wanted) (omega arith) (a .divisor) (omega arith) (a .kept) (found .result) (omega (arith, found .ensures .most)) (found .ensures)));
-      fits = c .look2 .ensures .1;
+          (sym (two-looks (a .clock) (a .wanted) (omega arith) (a .divisor) (omega arith) (a .kept .pair) (found .result) (omega (arith, found .ensures .most)) (found .ensures)));
+      measured = c .look2 .ensures .1;
     }
 
 pub look-along-spec : {M : Type 1} → statement M

@@ -11,7 +11,9 @@ returns c = rw (← c .before .is-too-far .ensures, c .if1 .taken)
 
 returns-2 : tie.Need-returns-2
 unfolding toldOf
-returns-2 c = rw (← c .before .before .is-too-far .ensures, c .before .if1 .left, toZ-ofZ {w = w64} {z = c .deviation-of .result} (record { sfits = c .deviation-of .ok }), c .deviation-of .ensures)
+returns-2 c =
+    let d = c .before .deviation-of in
+    rw (← c .before .before .before .is-too-far .ensures, c .before .before .if1 .left, toZ-ofZ {w = w64} {z = d .result} (record { sfits = d .ok }), d .ensures)
 
 pub tell-spec : {M : Type 1} → statement M
 tell-spec = tie.close (tie.spec (λ c κs. search needs) returns (λ c κs. search needs) returns-2)
