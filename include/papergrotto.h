@@ -205,9 +205,9 @@ struct papergrotto_told papergrotto_confirmations(const uint8_t *stream, size_t 
 /* "Choosing the rate": of the divisors 8, 32, 128, 512 and 2048 and the periods 1 to 255 the pair whose
  * rate, the clock over divisor times period, is nearest to the wanted one; of two that are as near, the
  * smaller divisor, then the smaller period. The clock is in Hz, 1,000,000 to 60,000,000, the rate 1 to
- * 230,400. values[0]: the divisor; values[1]: the period; values[2] and values[3]: by how many millionths
- * of the wanted rate the real one deviates, cut toward zero, and 1 where it is below. Refusals 12 and
- * 13, in this order. */
+ * 230,400. values[0]: the divisor; values[1]: the period; values[2] and values[3]: the deviation of the
+ * real rate in millionths of the wanted one, cut toward zero: its size, and 1 where it is negative, so 0
+ * where it was cut to 0. Refusals 12 and 13, in this order. */
 struct papergrotto_told papergrotto_rate(uint32_t clock, uint32_t wanted);
 
 #ifdef __cplusplus

@@ -1,5 +1,5 @@
-// 02 c, "Choosing the rate": a divisor and a period for a clock and a wanted rate. Of the 1275 pairs it looks at ten at most: for each divisor at the
-// two periods beside the exact one. Whole numbers only: the greatest product is a distance times a divider, below 2 ^ 56.
+// 02 c, "Choosing the rate": a divisor and a period for a clock and a wanted rate. Of the 1275 pairs it looks at eleven at most: at the first one,
+// and for each divisor at the two periods beside the exact one. Whole numbers only: the greatest product is a distance times a million, below 2 ^ 57.
 ghost use mathlib.Core.Path.{_≡_};
 ghost use Prim.Native.Nat.{_≤_, _*_};
 ghost use lib.Dec.{ltb};

@@ -14,12 +14,13 @@ use lib.Signed.{quotZ}
 use Rattle.paper.specs.Choice.{if_then_else_}
 use Rattle.paper.specs.Numbers.{negative}
 use Rattle.paper.specs.Rate.{pair, row, divisors, rows, pairs, divider, every, firstOf, outside, gap, nearer, unbeaten, choice, deviation, outOfRange, tooFar, told, choose}
-use Rattle.paper.specs.declared.Refusal.the-variants.{TooFar}
+use Rattle.paper.specs.declared.Refusal.the-variants.{OutsideRange, TooFar}
 use Rattle.paper.specs.declared.Pair.{Pair}
+use Rattle.paper.specs.declared.Choosing.{Choosing}
 use Rattle.paper.specs.declared.Choosing.the-variants.{Chosen, Unchosen}
 use Rattle.demands.specs.Confirmations.{Ascending}
 use Rattle.rates.specs.Looks.{best}
-use Rattle.rates.specs.Rates.{InRange, Allowed, Before, AtMost, Far, EveryFar, Deviates, Right, Says, outside as out, far, chosen, Rates}
+use Rattle.rates.specs.Rates.{InRange, Allowed, Before, AtMost, Far, EveryFar, Deviates, Right, Says, outside as out, far, chosen, Rates, Exactly}
 use Rattle.demands.proofs.Choices as choices
 use Rattle.demands.proofs.Choices.{both}
 use Rattle.rates.proofs.FirstBest.{irrefl, stays, every-best, first-best}
@@ -396,3 +397,21 @@ rates clock wanted =
     choices.chosen (Says clock wanted) (outOfRange clock wanted)
     (λ e. out (λ r. true≢false (sym e ∙ not-out-of-range clock wanted r)))
     (λ e. served clock wanted (range-of clock wanted e) (every (tooFar clock wanted) pairs) refl (choice clock wanted pairs) refl)
+
+module _ (clock wanted : ℕ) where
+  refused-outside : (InRange clock wanted → ⊥) → (a : Choosing) → Says clock wanted a → a ≡ Unchosen OutsideRange
+  refused-outside beyond a (out h) = refl
+  refused-outside beyond a (far r h) = absurd (beyond r)
+  refused-outside beyond a (chosen r h) = absurd (beyond r)
+
+  refused-far : InRange clock wanted → EveryFar clock wanted → (a : Choosing) → Says clock wanted a → a ≡ Unchosen TooFar
+  refused-far r every a (out h) = absurd (h r)
+  refused-far r every a (far s h) = refl
+  refused-far r every a (chosen {p = p} s h) = absurd (h .near (every p (h .allowed)))
+
+pub exactly : (clock wanted : ℕ) → Exactly clock wanted
+exactly clock wanted =
+    record {
+      twelve = λ beyond. refused-outside clock wanted beyond (choose clock wanted) (rates clock wanted);
+      thirteen = λ r every. refused-far clock wanted r every (choose clock wanted) (rates clock wanted);
+    }

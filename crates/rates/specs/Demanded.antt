@@ -1,5 +1,6 @@
 -- ALL THAT IS PROVED of request c's choice.
-use Rattle.rates.specs.Rates.{Rates}
+use Prim.Native.Nat.{ℕ}
+use Rattle.rates.specs.Rates.{Rates, Exactly}
 use Rattle.rates.specs.RateCases.{ChoiceCases, TieCases, RateRefusalCases, SlowRateCases, ChoosingNumberCases, WordCases, RateTextCases, UsualRateCases}
 
 pub record Demanded : Type 0 where
@@ -12,3 +13,4 @@ pub record Demanded : Type 0 where
   pub rate-text-cases : RateTextCases
   pub usual-rate-cases : UsualRateCases
   pub rates : Rates
+  pub exactly : (clock wanted : ℕ) → Exactly clock wanted

@@ -55,7 +55,7 @@ module _ (clock wanted : ℕ) where
     pub near : Far p → ⊥
     pub deviates : Deviates p deviation
 
-  -- what an answer says of a clock and a wanted rate; the three shut one another out, so each is given exactly where it is right
+  -- what an answer says of a clock and a wanted rate
   pub data Says : Choosing → Type 0 where
     outside : (InRange clock wanted → ⊥) → Says (Unchosen OutsideRange)
     far : InRange clock wanted → EveryFar → Says (Unchosen TooFar)
@@ -63,3 +63,8 @@ module _ (clock wanted : ℕ) where
 
 abbrev pub Rates : Type 0
 Rates = (clock wanted : ℕ) → Says clock wanted (choose clock wanted)
+
+-- "exactly if": each refusal is given wherever what it says holds
+pub record Exactly (clock wanted : ℕ) : Type 0 where
+  pub twelve : (InRange clock wanted → ⊥) → choose clock wanted ≡ Unchosen OutsideRange
+  pub thirteen : InRange clock wanted → EveryFar clock wanted → choose clock wanted ≡ Unchosen TooFar
