@@ -11,8 +11,8 @@ use lib.Dec.{ltb}
 use Rattle.paper.specs.declared.Pair.{Pair}
 use Rattle.paper.specs.declared.Refusal.the-variants.{OutsideRange}
 use Rattle.paper.specs.declared.Choosing.the-variants.{Unchosen}
-use Rattle.paper.specs.Choice.{if_then_else_}
-use Rattle.paper.specs.Rate.{pair, row, rows, pairs, outside, nearer, outOfRange, tooFar, choose}
+use Rattle.paper.specs.Choice.{if_then_else_, outside}
+use Rattle.paper.specs.Rate.{pair, row, rows, pairs, nearer, outOfRange, tooFar, choose}
 use Rattle.rates.specs.Looks.{pick, best}
 use Rattle.rates.specs.Rates.{InRange}
 use Rattle.choosing.specs.Search.{Beside, Measured, toldOf}

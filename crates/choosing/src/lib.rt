@@ -3,6 +3,7 @@
 ghost use mathlib.Core.Path.{_≡_};
 ghost use Prim.Native.Nat.{_≤_, _*_};
 ghost use lib.Dec.{ltb};
+ghost use Rattle.paper.specs.Choice.{outside};
 ghost use Rattle.paper.specs.Rate as paper;
 ghost use Rattle.rates.specs.Looks.{pick};
 ghost use Rattle.rates.specs.Rates.{InRange};
@@ -146,7 +147,7 @@ fn tell(clock: u64, wanted: u64, kept: Seen) -> Choosing
 
 // "outside its range"
 fn is_outside(least: u32, most: u32, value: u32) -> bool
-    ensures { λ r. ⌜ r ≡ paper.outside least most value ⌝ }
+    ensures { λ r. ⌜ r ≡ outside least most value ⌝ }
 {
     if value < least {
         return true;

@@ -6,7 +6,7 @@ use Prim.Native.Nat.{ℕ, zero, suc, _+_, _-_, _*_}
 use lib.Dec.{ltb}
 use lib.IntN.{ℤ, pos, _-ℤ_, _*ℤ_}
 use lib.Signed.{quotZ}
-use Rattle.paper.specs.Choice.{if_then_else_}
+use Rattle.paper.specs.Choice.{if_then_else_, outside}
 use Rattle.paper.specs.declared.Refusal.the-variants.{OutsideRange, TooFar}
 use Rattle.paper.specs.declared.Pair.{Pair}
 use Rattle.paper.specs.declared.Choosing.{Choosing}
@@ -46,9 +46,6 @@ every test (a ∷ l) = test a && every test l
 unfoldable pub firstOf : {A : Type 0} → (A → Bool) → List A → Option A
 firstOf test [] = none
 firstOf test (a ∷ l) = if test a then some a else firstOf test l
-
-abbrev pub outside : (least most value : ℕ) → Bool
-outside least most value = ltb value least || ltb most value
 
 module _ (clock wanted : ℕ) where
   -- DISTANCE
