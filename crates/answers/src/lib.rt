@@ -1,4 +1,6 @@
 // An answer as a line: which of the lines of crate printing it is.
+#![tactic(auto)]
+
 ghost use Rattle.std.specs.Prelude.{◌≡◌, []};
 ghost use Rattle.hexadecimal.specs.Written.{Wrote};
 ghost use Rattle.printing.specs.Printed.{Room};

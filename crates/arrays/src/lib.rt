@@ -1,4 +1,6 @@
 // Arrays of bytes whose unused places hold zeros, and how many of them are used.
+#![tactic(auto)]
+
 ghost use Rattle.std.specs.Prelude.{◌≡◌, ◌++◌, ◌≤◌, min, length, drop, replicate};
 
 // What stands from n on moves to the front of an array of zeros, so that n zeros stand behind it.

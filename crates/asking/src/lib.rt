@@ -1,4 +1,6 @@
 // From a line of the input to its call.
+#![tactic(auto)]
+
 ghost use Rattle.std.specs.Prelude.{◌≡◌, ◌≤◌, ◌<◌, length, take, get_or};
 ghost use Rattle.paper.specs.Settings.{Size};
 ghost use Rattle.paper.specs.Frames.{call_of};
@@ -10,7 +12,7 @@ use hexadecimal::LineSoFar;
 use paper::Asked;
 
 // What was found at a line's end.
-#[derive(Drop)]
+#[derive(Clone, Copy)]
 pub enum Found {
     // what is asked of a channel from 0 to 3
     OnChannel(Asked),
@@ -30,6 +32,7 @@ fn wide(n: u8) -> usize
 }
 
 // A row of the table: what a frame of its first byte asks of a channel, if its length is right.
+#[tactic(auto, unfolding(crate::specs::Frame::row_found))]
 fn row(right: bool, channel: u8, asked: Asked) -> Found
     ensures { result ≡ row_found right channel asked }
 {
@@ -80,7 +83,7 @@ fn pick(right: bool) -> Found
 
 // The place behind a line or at the piece's end, and the line there; how many bytes the line's frame has, the channel that it names, and what was
 // found.
-#[derive(Drop)]
+#[derive(Clone, Copy)]
 pub struct Next {
     pub at: usize,
     pub line: LineSoFar,
@@ -90,6 +93,7 @@ pub struct Next {
 }
 
 // How many bytes a line's frame has: none where there is "an odd count of digits", nor where it is no frame, which counts 69.
+#[tactic(auto, unfolding(crate::specs::Frame::bytes_in))]
 fn bytes_in(line: LineSoFar) -> usize
     ensures { result ≡ bytes_in line }
 {

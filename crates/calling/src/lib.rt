@@ -1,4 +1,6 @@
 // From a call to its answer line.
+#![tactic(auto)]
+
 ghost use Rattle.std.proofs.Math.Option.{some};
 ghost use Rattle.std.specs.Prelude.{replicate};
 ghost use Rattle.paper.specs.Transmitter as lines;

@@ -1,4 +1,6 @@
 // The card by value: four channels' records and the pick's place. Each call gives what the paper's step gives on the card that the record holds.
+#![tactic(auto)]
+
 ghost use Rattle.std.specs.Prelude.{[], ◌≡◌};
 ghost use Rattle.paper.specs.Settings.{card_size};
 ghost use Rattle.paper.specs.Card.{pick, fresh_card};
@@ -9,14 +11,14 @@ use channel::Channel;
 use paper::{Answer, Asked, Refusal};
 
 // "Four channels, 0 to 3"; place is the channel that a pick last named.
-#[derive(Drop)]
+#[derive(Clone, Copy)]
 pub struct Card {
     pub channels: [Channel; 4],
     pub place: u8,
 }
 
 // What a call answers, and the card after it.
-#[derive(Drop)]
+#[derive(Clone, Copy)]
 pub struct Answered {
     pub answer: Answer,
     pub card: Card,
@@ -24,6 +26,7 @@ pub struct Answered {
 
 impl Card {
     // "a fresh card looks at 0 first"
+    #[tactic(auto, unfolding(crate::specs::Held::card_of))]
     pub fn fresh() -> Card
         ensures { (result ≡ card_of card_size fresh_card) × Sound result }
     {

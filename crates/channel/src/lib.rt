@@ -1,4 +1,6 @@
 // A channel's record by value, and its calls: each gives what the paper's step gives on the channel that the record holds.
+#![tactic(auto)]
+
 ghost use Rattle.std.specs.Prelude.{[], ◌≡◌};
 ghost use Rattle.paper.specs.Settings.{fresh_settings, card_size};
 ghost use Rattle.paper.specs.Channel as calls;
@@ -14,7 +16,7 @@ use transmitter::Transmitter;
 // "Each has settings, a receive queue of 12 items, a transmit queue of 12 bytes, and small flags." 02 a: "One more place is to hold an item behind the
 // twelve".
 #[repr(C)]
-#[derive(Drop)]
+#[derive(Clone, Copy)]
 pub struct Channel {
     pub queue: Queue,
     pub transmitter: Transmitter,
@@ -23,7 +25,7 @@ pub struct Channel {
 }
 
 // What a call answers, and the channel after it.
-#[derive(Drop)]
+#[derive(Clone, Copy)]
 pub struct Answered {
     pub answer: Answer,
     pub channel: Channel,
@@ -60,6 +62,7 @@ impl Channel {
     }
 
     // "queues empty, nothing pending, transmitter running, CTS 0, loss count 0"
+    #[tactic(auto, unfolding(crate::specs::Held::channel_of))]
     pub fn fresh() -> Channel
         ensures { (result ≡ channel_of card_size calls.fresh) × Sound result }
     {
@@ -158,6 +161,7 @@ impl Channel {
     }
 
     // "Reset makes one channel fresh."
+    #[tactic(auto, unfolding(crate::specs::Promise::given, crate::specs::Promise::answered, paper::specs::Channel::channel_step))]
     pub fn reset(self) -> Answered
         requires { Sound self }
         ensures { Promise self calls.reset result [] }
@@ -204,6 +208,7 @@ impl Channel {
     }
 
     // "waiting items reach its threshold"
+    #[tactic(auto, unfolding(crate::specs::Promise::at_threshold, crate::specs::Held::channel_in))]
     pub fn ready(self) -> bool
         requires { Sound self }
         ensures { result ≡ at_threshold self }
@@ -241,6 +246,7 @@ impl Channel {
     }
 
     // "Load: takes the first min(length, room) bytes; answers that number."
+    #[tactic(auto, unfolding(paper::specs::Transmitter::transmit_step, transmitter::specs::Held::loads))]
     pub fn load(self, bytes: &[u8]) -> Answered
         requires { Sound self }
         ensures { Promise self (calls.transmit (lines.load bytes.now)) result bytes.now }
@@ -250,6 +256,7 @@ impl Channel {
     }
 
     // "Line turn, one character time."
+    #[tactic(auto, unfolding(paper::specs::Transmitter::transmit_step, transmitter::specs::Held::turns))]
     pub fn turn(self) -> Answered
         requires { Sound self }
         ensures { Promise self (calls.transmit lines.turn) result [] }
@@ -261,6 +268,7 @@ impl Channel {
     }
 
     // CTS. Refusal 10: neither 0 nor 1.
+    #[tactic(auto, unfolding(paper::specs::Transmitter::transmit_step, transmitter::specs::Held::sets_cts))]
     pub fn set_cts(self, value: u8) -> Answered
         requires { Sound self }
         ensures { Promise self (calls.transmit (lines.set_cts value)) result [] }
@@ -270,6 +278,7 @@ impl Channel {
     }
 
     // "Special s from 1 to 4: the present special character s waits for the next turn." Refusals: 6 not 1 to 4, 7 one already waits.
+    #[tactic(auto, unfolding(paper::specs::Transmitter::transmit_step, transmitter::specs::Held::asks_special))]
     pub fn ask_special(self, number: u8) -> Answered
         requires { Sound self }
         ensures { Promise self (calls.transmit (lines.ask_special number)) result [] }

@@ -1,5 +1,7 @@
 // 02 c, "Choosing the rate": a divisor and a period for a clock and a wanted rate. Of the 1275 pairs it looks at eleven at most: at the first one,
 // and for each divisor at the two periods beside the exact one. Whole numbers only: the greatest product is a distance times a million, below 2 ^ 57.
+#![tactic(auto)]
+
 ghost use Rattle.std.specs.Prelude.{◌≡◌, ◌≤◌, ◌*◌, ltb};
 ghost use Rattle.paper.specs.Choice.{outside};
 ghost use Rattle.paper.specs.Rate as paper;
@@ -10,7 +12,7 @@ ghost use Rattle.choosing.specs.Search.{Held, Bounded, Measured, Beside, Kept, m
 use paper::{Choosing, Pair, Refusal};
 
 // A pair that was looked at, with its divider and the distance between the clock and rate times divider: each is worked out once.
-#[derive(Drop)]
+#[derive(Clone, Copy)]
 struct Seen {
     pair: Pair,
     divider: u64,
@@ -18,6 +20,7 @@ struct Seen {
 }
 
 // The distance between the clock and rate times divider.
+#[tactic(auto, unfolding(paper::specs::Rate::gap))]
 fn gap_of(clock: u64, wanted: u64, divider: u64) -> u64
     requires in_range { InRange clock wanted }
     requires divider_le_most_divider { divider ≤ most_divider }
@@ -109,6 +112,7 @@ fn nearest(clock: u64, wanted: u64) -> Seen
 }
 
 // "more than 25,000 millionths away, before cutting"
+#[tactic(auto, unfolding(paper::specs::Rate::too_far))]
 fn is_too_far(clock: u64, wanted: u64, kept: Seen) -> bool
     requires in_range { InRange clock wanted }
     requires measured { Measured clock wanted kept }
@@ -119,6 +123,7 @@ fn is_too_far(clock: u64, wanted: u64, kept: Seen) -> bool
 
 // "the signed deviation in millionths of the wanted rate, cut toward zero": a signed quotient, from the exact difference between clock and rate times
 // divider.
+#[tactic(auto, unfolding(paper::specs::Rate::deviation))]
 fn deviation_of(clock: u64, wanted: u64, kept: Seen) -> i64
     requires in_range { InRange clock wanted }
     requires measured { Measured clock wanted kept }
@@ -130,6 +135,7 @@ fn deviation_of(clock: u64, wanted: u64, kept: Seen) -> i64
 }
 
 // The pair that was kept, unless even it is too far.
+#[tactic(auto, unfolding(crate::specs::Search::told_of))]
 fn tell(clock: u64, wanted: u64, kept: Seen) -> Choosing
     requires in_range { InRange clock wanted }
     requires measured { Measured clock wanted kept }

@@ -2,6 +2,8 @@
 //
 // Its dealings with the world: it reads standard input to its end, however long, in constant memory, and writes what is found in a piece before it
 // reads on. What it finds and writes is proved in `reporting`; no contract can say what is read or written, so these functions are kept thin.
+#![tactic(auto)]
+
 ghost use Rattle.std.specs.Prelude.{false, ◌≡◌, ◌≤◌, length};
 ghost use Rattle.finding.specs.Bounds.{SoundSearch};
 ghost use Rattle.sheet.specs.Lines.{longest};
@@ -12,7 +14,7 @@ use finding::Search;
 use standard::{read_piece, write_text};
 
 // What is carried from piece to piece: the search, whether the last line was put, and whether the output was closed.
-#[derive(Drop)]
+#[derive(Clone, Copy)]
 struct Carried {
     search: Search,
     over: bool,
@@ -66,7 +68,7 @@ fn close(carried: Carried, out: &mut [u8])
 }
 
 // The next piece of the input, which stands at the front of the buffer: how long it is, 0 at the input's end, and whether the input failed instead.
-#[derive(Drop)]
+#[derive(Clone, Copy)]
 struct Piece {
     long: usize,
     failed: bool,

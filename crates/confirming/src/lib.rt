@@ -1,4 +1,6 @@
 // 02 n: confirmations, over a marked stream and a lent list.
+#![tactic(auto)]
+
 ghost use Rattle.std.specs.Prelude.{◌≡◌, [], map, length};
 ghost use Rattle.paper.specs.Confirmations.{judgement_number, number_of, litres_of, said, place_in, number_in, litres_in, judgement_in};
 ghost use Rattle.paper.specs.Stream as paper;
@@ -11,7 +13,7 @@ use paper::{Judgement, Listing, Refusal};
 use stream::Scan;
 
 // How many entries a stream has and the sum of the accepted litres, or that these are more than a list has places for, or than can be counted.
-#[derive(Drop)]
+#[derive(Clone, Copy)]
 enum Counted {
     Entries(usize, usize),
     TooMany,

@@ -1,4 +1,6 @@
 // Decimal numbers: read from a word, and put into a lent buffer.
+#![tactic(auto)]
+
 ghost use Rattle.std.specs.Prelude.{◌≡◌, ◌++◌, ◌+◌, ◌≤◌, length};
 ghost use Rattle.paper.specs.Decimal.{number_of, last_digits, digits_of, decimal};
 ghost use Rattle.hexadecimal.specs.Written.{Wrote};
@@ -71,6 +73,7 @@ pub fn put_digits(out: &mut [u8], at: usize, count: usize, number: usize) -> usi
 }
 
 // Without leading zeros.
+#[tactic(auto, unfolding(paper::specs::Decimal::decimal))]
 pub fn put_decimal(out: &mut [u8], at: usize, number: usize) -> usize
     requires { at + length (decimal number) ≤ length out.old }
     ensures { Wrote out.old at (decimal number) out.new result }

@@ -2,6 +2,8 @@
 //
 // Its dealings with the world: both words are read before the line is written. What it writes is proved in `tabling`; no contract can say which words
 // came or what is written, so these functions are kept thin.
+#![tactic(auto)]
+
 ghost use Rattle.std.specs.Prelude.{◌≤◌, length};
 ghost use Rattle.tabling.specs.Lines.{longest_pair, longest_table};
 

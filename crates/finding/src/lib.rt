@@ -1,5 +1,7 @@
 // 02 n: the finder of confirmations, one character a call, by value and in constant memory; and the search through a marked stream, byte by byte, which
 // may stop and go on anywhere. What they mean stands in specs/.
+#![tactic(auto)]
+
 ghost use Rattle.std.specs.Prelude.{◌≡◌, ◌+◌, ◌≤◌, ◌<◌, length};
 ghost use Rattle.std.proofs.Math.Option.{none, some};
 ghost use Rattle.paper.specs.Confirmations.{judgement_on, counted, litres_of, furthest};
@@ -13,7 +15,7 @@ ghost use Rattle.finding.specs.Walk.{Follows, Walks};
 use paper::{Confirmation, Entry, FURTHEST, Judgement, LastAccepted};
 
 // The form of the characters of a run so far: how many there are, 12 where they are of another form, and what they spell.
-#[derive(Drop)]
+#[derive(Clone, Copy)]
 pub struct Form {
     pub seen: u8,
     pub number: u16,
@@ -21,21 +23,21 @@ pub struct Form {
 }
 
 // An unfinished run: the place of its STX, whether it holds a damaged character, and its form so far.
-#[derive(Drop)]
+#[derive(Clone, Copy)]
 pub struct Begun {
     pub place: usize,
     pub damaged: bool,
     pub form: Form,
 }
 
-#[derive(Drop)]
+#[derive(Clone, Copy)]
 pub enum Open {
     Outside,
     Within(Begun),
 }
 
 // The finder: how many characters have passed, the run they leave open, the number last accepted, and the litres accepted.
-#[derive(Drop)]
+#[derive(Clone, Copy)]
 pub struct Finder {
     pub passed: usize,
     pub run: Open,
@@ -44,14 +46,14 @@ pub struct Finder {
 }
 
 // What a character tells: nothing, an entry, or that places or litres go no further.
-#[derive(Drop)]
+#[derive(Clone, Copy)]
 pub enum Found {
     Nothing,
     One(Entry),
     Full,
 }
 
-#[derive(Drop)]
+#[derive(Clone, Copy)]
 pub struct Step {
     pub finder: Finder,
     pub found: Found,
@@ -114,6 +116,7 @@ fn form_step(f: Form, b: u8) -> Form
 }
 
 // "A number equal to the one last accepted is reported as repeated ...; any other than the next one (0000 follows 9999) ... as a gap."
+#[tactic(auto, unfolding(paper::specs::Confirmations::judgement_on, paper::specs::Confirmations::next))]
 fn judgement_after(n: u16, c: Confirmation) -> Judgement
     requires { n < 10000 }
     ensures { result ≡ judgement_on (LastAccepted.Number n) c }
@@ -128,6 +131,7 @@ fn judgement_after(n: u16, c: Confirmation) -> Judgement
 }
 
 // "The first is accepted without a gap."
+#[tactic(auto, unfolding(paper::specs::Confirmations::judgement_on))]
 fn judgement_on(last: LastAccepted, c: Confirmation) -> Judgement
     requires { SoundLast last }
     ensures { result ≡ judgement_on last c }
@@ -340,7 +344,7 @@ pub fn advance(f: Finder, damaged: bool, byte: u8) -> Step
 const FF: u8 = 0xFF;
 
 // What of a character has been read: nothing, an FF, an FF 00.
-#[derive(Drop)]
+#[derive(Clone, Copy)]
 pub enum PartRead {
     Nothing,
     Mark,
@@ -348,7 +352,7 @@ pub enum PartRead {
 }
 
 // Where a search stands: what of a character has been read, the place of that character's first byte, and the finder behind all before it.
-#[derive(Drop)]
+#[derive(Clone, Copy)]
 pub struct Search {
     pub part: PartRead,
     pub place: usize,
@@ -356,7 +360,7 @@ pub struct Search {
 }
 
 // What a byte tells: nothing, an entry, the place of a broken FF, or the place of the first character that cannot be counted.
-#[derive(Drop)]
+#[derive(Clone, Copy)]
 pub enum Told {
     Nothing,
     One(Entry),
@@ -364,7 +368,7 @@ pub enum Told {
     Full(usize),
 }
 
-#[derive(Drop)]
+#[derive(Clone, Copy)]
 pub struct Taken {
     pub search: Search,
     pub told: Told,
@@ -513,7 +517,7 @@ fn stretch_end(piece: &[u8], from: usize) -> usize
 }
 
 // The same within a run, with the form behind it.
-#[derive(Drop)]
+#[derive(Clone, Copy)]
 struct Stretch {
     at: usize,
     form: Form,
@@ -544,7 +548,7 @@ fn stretch_form(piece: &[u8], from: usize, start: Form) -> Stretch
 }
 
 // Where a search stands in a piece.
-#[derive(Drop)]
+#[derive(Clone, Copy)]
 struct Settled {
     at: usize,
     search: Search,
@@ -626,7 +630,7 @@ fn settle(s: Search, piece: &[u8], from: usize) -> Settled
 }
 
 // Where a search stands in a piece of a stream: behind the byte that told something, or at the piece's end.
-#[derive(Drop)]
+#[derive(Clone, Copy)]
 pub struct Next {
     pub at: usize,
     pub search: Search,

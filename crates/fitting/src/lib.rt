@@ -1,4 +1,6 @@
 // 02 c: the lines for the fitters, put into a lent buffer.
+#![tactic(auto)]
+
 ghost use Rattle.std.specs.Prelude.{◌++◌, map, ◌+◌, ◌*◌, ◌≤◌, length};
 ghost use Rattle.paper.specs.Text.{text};
 ghost use Rattle.paper.specs.Decimal.{decimal};
@@ -61,6 +63,7 @@ fn put_chosen(out: &mut [u8], at: usize, pair: Pair, deviation: i64) -> usize
 }
 
 // `DIVISOR PERIOD DEVIATION`; or `refused 12`, `refused 13`.
+#[tactic(auto, unfolding(paper::specs::RateLines::choice_words))]
 fn put_choice(out: &mut [u8], at: usize, choosing: Choosing) -> usize
     requires { at + longest_choice ≤ length out.old }
     ensures { WroteWithin longest_choice out.old at (choice_words choosing) out.new result }

@@ -1,4 +1,6 @@
 // Program: the frame program. A frame of hexadecimal a line in, an answer a line out.
+#![tactic(auto)]
+
 fn main() {
     shell::start();
 }

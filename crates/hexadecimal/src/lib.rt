@@ -1,4 +1,6 @@
 // Hexadecimal: lines that come in pieces of any length, and bytes as two capitals each.
+#![tactic(auto)]
+
 ghost use Rattle.std.specs.Prelude.{◌≡◌, [], ◌∷◌, ◌≢◌, ◌+◌, ◌*◌, ◌<◌, ◌≤◌, length};
 ghost use Rattle.paper.specs.Frames as paper;
 ghost use Rattle.hexadecimal.specs.LineSoFar.{value_or_16, digit_table, most_bytes, Fits, Gathers};
@@ -17,14 +19,14 @@ const NO_FRAME: usize = 69;
 const NEWLINE: u8 = 10;
 
 // What is known of a line so far, beside the bytes of its frame: how many digits it has, 69 where it is no frame, and its last digit.
-#[derive(Drop)]
+#[derive(Clone, Copy)]
 pub struct LineSoFar {
     pub digits: usize,
     pub last: u8,
 }
 
 // Where reading stopped in a piece, the line there, and whether its newline was read.
-#[derive(Drop)]
+#[derive(Clone, Copy)]
 pub struct Cut {
     pub at: usize,
     pub line: LineSoFar,
@@ -51,6 +53,7 @@ const DIGITS: [u8; 256] = *b"\
     \x10\x10\x10\x10\x10\x10\x10\x10\x10\x10\x10\x10\x10\x10\x10\x10";
 
 // The table as a value: whoever reads much makes it once and lends it.
+#[tactic(auto, unfolding(crate::specs::LineSoFar::digit_table, paper::specs::Frames::digit))]
 pub fn digits() -> [u8; 256]
     ensures { result ≡ digit_table }
 {

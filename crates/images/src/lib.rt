@@ -1,4 +1,6 @@
 // The bytes that stand for items, written into a lent buffer.
+#![tactic(auto)]
+
 ghost use Rattle.std.specs.Prelude.{◌≡◌, ◌+◌, ◌*◌, ◌≤◌, length};
 ghost use Rattle.paper.specs.Stream.{image, front};
 ghost use Rattle.paper.specs.Channel.{written};
@@ -7,6 +9,7 @@ ghost use Rattle.images.specs.Code.{kind_of, byte_of, item_in, images_in};
 use paper::Item;
 
 // "plain b is b; doubled is FF FF; damaged b is FF 00 b", at the front of a part; answers how many bytes that is.
+#[tactic(auto, unfolding(crate::specs::Code::item_in))]
 fn put_image(part: &mut [u8], kind: u8, byte: u8) -> usize
     requires { 3 ≤ length part.old }
     ensures { (result ≡ length (image (item_in kind byte))) × (part.new ≡ front (image (item_in kind byte)) part.old) }

@@ -1,4 +1,6 @@
 // 01, "Settings, 15 bytes": the test of settings, by value.
+#![tactic(auto)]
+
 ghost use Rattle.std.specs.Prelude.{◌≡◌, ◌||◌, [], ◌∷◌, ltb, get_or};
 ghost use Rattle.paper.specs.Settings.{settings_of, range, tests, crossed12, crossed15, bad_field};
 ghost use Rattle.judging.specs.Judged.{after_test, after_tests, own_ranges, judged_as};
@@ -6,7 +8,7 @@ ghost use Rattle.judging.specs.Judged.{after_test, after_tests, own_ranges, judg
 use paper::Settings;
 
 // Settings that are right, or "settings not 15 bytes (field 0) or the first bad field".
-#[derive(Drop)]
+#[derive(Clone, Copy)]
 pub enum Judged {
     Fit(Settings),
     Bad(u8),
@@ -82,6 +84,7 @@ fn crossed_literal(s: Settings) -> bool
 }
 
 // What is judged after one test more: "the first bad field" stays.
+#[tactic(auto, unfolding(crate::specs::Judged::after_test))]
 fn tested(judged: Judged, field: u8, bad: bool) -> Judged
     ensures { result ≡ after_test judged (record { field = field; bad = bad }) }
 {
@@ -138,6 +141,7 @@ fn judge_fields(s: Settings, most: u8) -> Judged
 }
 
 // "settings not 15 bytes (field 0) or the first bad field"; `most` is the most that a threshold may be.
+#[tactic(auto, unfolding(paper::specs::Settings::bad_field))]
 pub fn judge(bytes: &[u8], most: u8) -> Judged
     ensures { result ≡ judged_as bytes.now (bad_field most bytes.now) }
 {

@@ -1,4 +1,6 @@
 // "one line of hexadecimal in capitals": numbers as a line, and the line of each sort of answer.
+#![tactic(auto)]
+
 ghost use Rattle.std.specs.Prelude.{◌≡◌, [], ◌∷◌, ◌+◌, ◌*◌, ◌<◌, ◌≤◌, nat_abs, length};
 ghost use Rattle.paper.specs.Choice.{if◌then◌else◌};
 ghost use Rattle.paper.specs.Numbers.{fate_number, negative, numbers};

@@ -1,4 +1,6 @@
 // The receive queue by value: the oldest item stands at place 0, and unused places hold zeros.
+#![tactic(auto)]
+
 ghost use Rattle.std.specs.Prelude.{◌≡◌, ◌+◌, ◌*◌, ◌<◌, ◌≤◌, length};
 ghost use Rattle.paper.specs.Queue as model;
 ghost use Rattle.paper.specs.Queue.{oldest, items_of};
@@ -10,7 +12,7 @@ use paper::{Fate, Item, Ruling};
 
 // The counts stand first, so that the record has no gap but at its end.
 #[repr(C)]
-#[derive(Drop)]
+#[derive(Clone, Copy)]
 pub struct Queue {
     pub count: usize,
     pub losses: u16,
@@ -22,14 +24,14 @@ pub struct Queue {
 }
 
 // An arrival's fate, and the queue after it.
-#[derive(Drop)]
+#[derive(Clone, Copy)]
 pub struct Placed {
     pub fate: Fate,
     pub queue: Queue,
 }
 
 // "the characters removed, how many had the overrun flag, and the bytes written", and the queue after a read.
-#[derive(Drop)]
+#[derive(Clone, Copy)]
 pub struct Handed {
     pub characters: usize,
     pub flagged: usize,
@@ -57,6 +59,7 @@ impl Queue {
     pub const PLACES: usize = paper::DEPTH;
 
     // "queues empty, ... loss count 0"
+    #[tactic(auto, unfolding(crate::specs::Held::queue_of))]
     pub fn fresh() -> Queue
         ensures { result ≡ queue_of places empty }
     {
@@ -98,6 +101,7 @@ impl Queue {
     }
 
     // "If 12 items wait, the new one is lost"; 02 a: "A loss now happens at thirteen"
+    #[tactic(auto, unfolding(crate::specs::Held::placing))]
     fn place_item(self, item: Item, depth: usize) -> Placed
         requires { (SoundIn places depth self) × ((0 < depth) × (depth ≤ places)) }
         ensures { result ≡ placing places depth self (Ruling.Store item) }
@@ -115,6 +119,7 @@ impl Queue {
     }
 
     // What an arrival's ruling does to a queue that holds depth items.
+    #[tactic(auto, unfolding(crate::specs::Held::placing))]
     pub fn place(self, ruling: Ruling, depth: usize) -> Placed
         requires { (SoundIn places depth self) × ((0 < depth) × (depth ≤ places)) }
         ensures { result ≡ placing places depth self ruling }
@@ -152,6 +157,7 @@ impl Queue {
     }
 
     // "removes the oldest min(n, waiting) items and writes their images into the lent buffer from a given place on"
+    #[tactic(auto, unfolding(crate::specs::Held::handing))]
     pub fn hand_over(self, n: usize, buffer: &mut [u8], place: usize) -> Handed
         requires { (Sound self) × (place + 3 * n ≤ length buffer.old) }
         ensures { (result ≡ handing places self n)

@@ -2,6 +2,8 @@
 //
 // Its dealings with the world: a rate's word is read, and its line written, before the next one is read. What it writes is proved in `fitting`; no
 // contract can say which words came or what is written, so these functions are kept thin.
+#![tactic(auto)]
+
 ghost use Rattle.std.specs.Prelude.{◌+◌, ◌*◌, ◌≤◌, length};
 ghost use Rattle.fitting.specs.Lines.{longest, longest_line};
 

@@ -1,4 +1,6 @@
 // A refusal as words for the fitters, put into a lent buffer.
+#![tactic(auto)]
+
 ghost use Rattle.std.specs.Prelude.{◌+◌, ◌≤◌, length};
 ghost use Rattle.paper.specs.RateLines.{refused_words};
 ghost use Rattle.hexadecimal.specs.Written.{WroteWithin};

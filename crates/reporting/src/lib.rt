@@ -1,4 +1,6 @@
 // 02 n: the yield sheet of a stream that comes in pieces: a line for each entry as it is found, and a last line.
+#![tactic(auto)]
+
 ghost use Rattle.std.specs.Prelude.{◌&&◌, ◌≡◌, ◌-◌, ◌≤◌, ltb, leb, length};
 ghost use Rattle.finding.specs.Bounds.{SoundSearch};
 ghost use Rattle.hexadecimal.specs.Written.{Wrote};
@@ -9,7 +11,7 @@ use finding::{PartRead, Search, Told, go_on};
 use sheet::{put_broken, put_entry, put_full, put_litres};
 
 // Where reporting stands: the search, the place in the piece, the place in what is written, and whether the last line was put.
-#[derive(Drop)]
+#[derive(Clone, Copy)]
 pub struct Reported {
     pub search: Search,
     pub at: usize,
@@ -29,6 +31,7 @@ fn goes_on(piece: &[u8], at: usize, out: &[u8], put: usize) -> bool
 }
 
 // The line of what was told, if it was something; answers the place behind it.
+#[tactic(auto, unfolding(crate::specs::Reports::told_line))]
 fn put_told(out: &mut [u8], at: usize, told: Told) -> usize
     requires { Room at out.old }
     ensures { Wrote out.old at (the.told_line told) out.new result }
@@ -42,6 +45,7 @@ fn put_told(out: &mut [u8], at: usize, told: Told) -> usize
 }
 
 // Nothing follows a broken FF, nor a character that cannot be counted.
+#[tactic(auto, unfolding(crate::specs::Reports::is_last))]
 fn is_last(told: Told) -> bool
     ensures { result ≡ the.is_last told }
 {

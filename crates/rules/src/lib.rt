@@ -1,4 +1,6 @@
 // 01, "One arrival", step by step, by value.
+#![tactic(auto)]
+
 ghost use Rattle.std.specs.Prelude.{◌≡◌, ◌≢◌, true, not, ◌&&◌, ◌||◌, eqb};
 ghost use Rattle.paper.specs.Arrival as steps;
 ghost use Rattle.rules.specs.Table.{comes_out};
@@ -18,6 +20,7 @@ const CR_INTO_NL: u8 = 2;
 const NL_INTO_CR: u8 = 1;
 
 // "Storing a good FF in mark mode makes a doubled item; any other good byte makes a plain item."
+#[tactic(auto, unfolding(paper::specs::Arrival::good_item))]
 fn good_item(s: Settings, b: u8) -> Item
     ensures { result ≡ steps.good_item s b }
 {
@@ -41,6 +44,7 @@ fn giving(ruling: Ruling, literal: bool, running: bool) -> Outcome
 }
 
 // "1. Break. Ignored: nothing changes. Kept: store damaged 00 in mark mode, else plain 00; clear the literal mark."
+#[tactic(auto, unfolding(paper::specs::Arrival::step1))]
 fn step1(s: Settings, f: Flags) -> Outcome
     ensures { result ≡ steps.step1 s f }
 {
@@ -69,6 +73,7 @@ fn goes_on_as_good(s: Settings, kind: u8) -> bool
 
 // "2. Parity or framing error. ... Discard: nothing changes. Null: store plain 00. Mark: store damaged b, unstripped. The last two clear the
 // literal mark, and match no special character." What is passed has gone on as good.
+#[tactic(auto, unfolding(paper::specs::Arrival::step2))]
 fn step2(s: Settings, f: Flags, b: u8) -> Outcome
     requires { s.damaged ≢ 1 }
     ensures { result ≡ steps.step2 s f b (steps.good s f b) }
@@ -87,6 +92,7 @@ fn step2(s: Settings, f: Flags, b: u8) -> Outcome
 }
 
 // "3. Good. If strip is on, b becomes b mod 128."
+#[tactic(auto, unfolding(paper::specs::Arrival::stripped))]
 fn strip(s: Settings, b: u8) -> u8
     ensures { result ≡ steps.stripped s b }
 {
@@ -97,6 +103,7 @@ fn strip(s: Settings, b: u8) -> u8
 }
 
 // "From here on, with implied XON the transmitter is set running, unless step 6 recognises XOFF."
+#[tactic(auto, unfolding(paper::specs::Arrival::woken))]
 fn wake(s: Settings, f: Flags) -> bool
     ensures { result ≡ steps.woken s f }
 {
@@ -107,6 +114,7 @@ fn wake(s: Settings, f: Flags) -> bool
 }
 
 // "4. Literal mark set: clear it, store b, stop."
+#[tactic(auto, unfolding(paper::specs::Arrival::step4))]
 fn step4(s: Settings, f: Flags, running: bool, b: u8) -> Outcome
     ensures { result ≡ steps.step4 s f running b (steps.step5 s running b (steps.step6 s b (steps.step7 s running b))) }
 {
@@ -127,6 +135,7 @@ fn is_literal_next(s: Settings, b: u8) -> bool
 }
 
 // "5. Literal-next on and b is that character: set the mark, store b, stop."
+#[tactic(auto, unfolding(paper::specs::Arrival::step5))]
 fn step5(s: Settings, running: bool, b: u8) -> Outcome
     ensures { result ≡ steps.step5 s running b (steps.step6 s b (steps.step7 s running b)) }
 {
@@ -150,6 +159,7 @@ fn is_flow_character(s: Settings, b: u8) -> bool
 }
 
 // "store b for value 1, store nothing for value 2"
+#[tactic(auto, unfolding(paper::specs::Arrival::flow_ruling))]
 fn flow_ruling(s: Settings, b: u8) -> Ruling
     ensures { result ≡ steps.flow_ruling s b }
 {
@@ -160,6 +170,7 @@ fn flow_ruling(s: Settings, b: u8) -> Ruling
 }
 
 // "6. Field 5 not 0 and b is XON or XOFF: set running or stopped; store b for value 1, store nothing for value 2; stop."
+#[tactic(auto, unfolding(paper::specs::Arrival::step6))]
 fn step6(s: Settings, running: bool, b: u8) -> Outcome
     ensures { result ≡ steps.step6 s b (steps.step7 s running b) }
 {
@@ -203,6 +214,7 @@ fn store_out(s: Settings, out: u8) -> Ruling
 }
 
 // CR and NL by their row; any other byte comes out as it is.
+#[tactic(auto, unfolding(paper::specs::Arrival::ending))]
 fn line_ending(s: Settings, b: u8) -> Ruling
     ensures { result ≡ steps.ending_ruling s (steps.ending s b) }
 {
@@ -216,6 +228,7 @@ fn line_ending(s: Settings, b: u8) -> Ruling
 }
 
 // "7. Line endings (CR 0D, NL 0A), one lookup and no second one; store what comes out."
+#[tactic(auto, unfolding(paper::specs::Arrival::step7))]
 fn step7(s: Settings, running: bool, b: u8) -> Outcome
     ensures { result ≡ steps.step7 s running b }
 {
@@ -223,6 +236,7 @@ fn step7(s: Settings, running: bool, b: u8) -> Outcome
 }
 
 // Steps 3 to 7.
+#[tactic(auto, unfolding(paper::specs::Arrival::good))]
 fn good(s: Settings, f: Flags, b: u8) -> Outcome
     ensures { result ≡ steps.good s f b }
 {
@@ -232,6 +246,7 @@ fn good(s: Settings, f: Flags, b: u8) -> Outcome
 }
 
 // "Kinds: 0 good, 1 parity error, 2 framing error, 3 break (its byte is disregarded)."
+#[tactic(auto, unfolding(paper::specs::Arrival::arrival, paper::specs::Arrival::step2))]
 pub fn arrival(s: Settings, f: Flags, kind: u8, b: u8) -> Outcome
     ensures { result ≡ steps.arrival s f kind b }
 {

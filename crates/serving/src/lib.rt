@@ -1,4 +1,6 @@
 // The serving of an input that comes in pieces.
+#![tactic(auto)]
+
 ghost use Rattle.std.specs.Prelude.{◌&&◌, ◌≡◌, ◌-◌, ◌≤◌, ltb, leb, length};
 ghost use Rattle.card.specs.Held.{Sound};
 ghost use Rattle.hexadecimal.specs.LineSoFar.{Fits};
@@ -14,7 +16,7 @@ use paper::Refusal;
 use printing::put_refused;
 
 // Where serving stands: the place in the piece, the line there, and the place in what is written.
-#[derive(Drop)]
+#[derive(Clone, Copy)]
 pub struct Spot {
     pub at: usize,
     pub line: LineSoFar,
@@ -22,7 +24,7 @@ pub struct Spot {
 }
 
 // The card after a piece, and where serving stopped.
-#[derive(Drop)]
+#[derive(Clone, Copy)]
 pub struct Served {
     pub card: Card,
     pub spot: Spot,

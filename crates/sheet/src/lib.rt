@@ -1,4 +1,6 @@
 // 02 n: the lines of the yield sheet, put into a lent buffer.
+#![tactic(auto)]
+
 ghost use Rattle.std.specs.Prelude.{◌≡◌, ◌++◌, ◌+◌, ◌<◌, ◌≤◌, length};
 ghost use Rattle.paper.specs.Text.{text};
 ghost use Rattle.paper.specs.Decimal.{decimal};
@@ -23,6 +25,7 @@ fn put_line(out: &mut [u8], at: usize, told: &[u8], number: usize) -> usize
 }
 
 // `NUMBER LITRES` behind the word for how it is judged, and a newline: the number with its four digits, litres without leading zeros.
+#[tactic(auto, unfolding(paper::specs::Yield::words))]
 fn put_said(out: &mut [u8], at: usize, judged: &[u8], said: Confirmation) -> usize
     requires { at + length judged.now + longest_said ≤ length out.old }
     ensures { Wrote out.old at (judged.now ++ (words said ++ text "\n")) out.new result }
@@ -33,6 +36,7 @@ fn put_said(out: &mut [u8], at: usize, judged: &[u8], said: Confirmation) -> usi
 }
 
 // `accepted NUMBER LITRES`, `gap NUMBER LITRES`, `repeated NUMBER LITRES` or `aside`, and a newline.
+#[tactic(auto, unfolding(paper::specs::Yield::judgement_words))]
 fn put_judgement(out: &mut [u8], at: usize, judgement: Judgement) -> usize
     requires { at + longest_judgement ≤ length out.old }
     ensures { Wrote out.old at (judgement_words judgement ++ text "\n") out.new result }
@@ -46,6 +50,7 @@ fn put_judgement(out: &mut [u8], at: usize, judgement: Judgement) -> usize
 }
 
 // An entry's line: its place, and how it is judged.
+#[tactic(auto, unfolding(paper::specs::Yield::line_of))]
 pub fn put_entry(out: &mut [u8], at: usize, entry: Entry) -> usize
     requires { Room at out.old }
     ensures { Wrote out.old at (line_of entry) out.new result }
@@ -57,6 +62,7 @@ pub fn put_entry(out: &mut [u8], at: usize, entry: Entry) -> usize
 }
 
 // `litres SUM`
+#[tactic(auto, unfolding(paper::specs::Yield::litres_line))]
 pub fn put_litres(out: &mut [u8], at: usize, sum: usize) -> usize
     requires { Room at out.old }
     ensures { Wrote out.old at (litres_line sum) out.new result }
@@ -65,6 +71,7 @@ pub fn put_litres(out: &mut [u8], at: usize, sum: usize) -> usize
 }
 
 // `refused 8 PLACE`, the place in bytes.
+#[tactic(auto, unfolding(paper::specs::Yield::broken_line))]
 pub fn put_broken(out: &mut [u8], at: usize, place: usize) -> usize
     requires { Room at out.old }
     ensures { Wrote out.old at (broken_line place) out.new result }
@@ -73,6 +80,7 @@ pub fn put_broken(out: &mut [u8], at: usize, place: usize) -> usize
 }
 
 // `full PLACE`, the place among the characters.
+#[tactic(auto, unfolding(paper::specs::Yield::full_line))]
 pub fn put_full(out: &mut [u8], at: usize, place: usize) -> usize
     requires { Room at out.old }
     ensures { Wrote out.old at (full_line place) out.new result }

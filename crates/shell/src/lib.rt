@@ -1,5 +1,7 @@
 // The frame program's dealings with the world: reads standard input to its end, serves each piece, and writes the answers before it reads on. What it
 // serves and writes is proved in `serving`; no contract can say what is read or written, so these functions are kept thin.
+#![tactic(auto)]
+
 ghost use Rattle.std.specs.Prelude.{true, false, ◌≡◌, ◌≤◌, length, take};
 ghost use Rattle.card.specs.Held.{Sound};
 ghost use Rattle.hexadecimal.specs.LineSoFar.{Fits};
@@ -12,7 +14,7 @@ use serving::Spot;
 use standard::{read_piece, write_text};
 
 // What is carried from piece to piece, and whether the output is still open.
-#[derive(Drop)]
+#[derive(Clone, Copy)]
 struct Carried {
     card: Card,
     line: LineSoFar,
@@ -58,6 +60,7 @@ fn answer(before: Carried, piece: &[u8], frame: &mut [u8], out: &mut [u8]) -> Ca
 }
 
 // "A last line without its newline counts": the newline that is missing where the input ends within a line; answers how many bytes that makes.
+#[tactic(auto, unfolding(serving::specs::Program::missing))]
 fn complete(line: LineSoFar, piece: &mut [u8]) -> usize
     requires { 1 ≤ length piece.old }
     ensures { (result ≤ length piece.new) × (take result piece.new ≡ missing line) }
@@ -70,7 +73,7 @@ fn complete(line: LineSoFar, piece: &mut [u8]) -> usize
 }
 
 // A piece of the input that stands at the front of the buffer, whether it is the last, and whether the input failed instead.
-#[derive(Drop)]
+#[derive(Clone, Copy)]
 struct Piece {
     long: usize,
     last: bool,

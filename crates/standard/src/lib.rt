@@ -1,5 +1,6 @@
 // Standard input and standard output, as the programs read and write them: a call that was interrupted is made again. No contract can say what is
 // read or written, so nothing else is done here.
+#![tactic(auto)]
 
 // Whether a call failed only because it was interrupted. An output that was closed is no news; any other failure is said.
 fn is_interrupted(what: &[u8]) -> bool {

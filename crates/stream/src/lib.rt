@@ -1,4 +1,6 @@
 // 01: "Reading a marked stream".
+#![tactic(auto)]
+
 ghost use Rattle.std.specs.Prelude.{◌≡◌, [], map, ◌<◌, ◌≤◌, length, take, drop};
 ghost use Rattle.paper.specs.Stream as paper;
 ghost use Rattle.stream.specs.Promise.{Promise};
@@ -14,14 +16,14 @@ const GOOD: u8 = 0;
 const DAMAGED: u8 = 1;
 
 // What a look through a stream finds: nothing broken, or the place of the first broken FF.
-#[derive(Drop)]
+#[derive(Clone, Copy)]
 pub enum Scan {
     Whole,
     Broken(usize),
 }
 
 // An item of a stream, and how many of its bytes stand for it.
-#[derive(Drop)]
+#[derive(Clone, Copy)]
 struct Found {
     sort: u8,
     byte: u8,

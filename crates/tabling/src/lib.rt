@@ -1,4 +1,6 @@
 // 02 h: the single setting of a pair, and the table of all 64, put into a lent buffer.
+#![tactic(auto)]
+
 ghost use Rattle.std.specs.Prelude.{[], ◌∷◌, ◌+◌, ◌*◌, ◌≤◌, length};
 ghost use Rattle.paper.specs.Text.{each};
 ghost use Rattle.paper.specs.TwoBoxes.{eight};
@@ -17,6 +19,7 @@ pub const LONGEST_PAIR: usize = 8 + 3 + 1 + 20 + 1;
 pub const LONGEST_TABLE: usize = 18 + 8 * (1 + 8 * 4 + 1);
 
 // `0` to `7`, or `none`; or `refused 5 4`. From a place on; answers the place behind it, as all that put something here do.
+#[tactic(auto, unfolding(paper::specs::EndingLines::ending_words))]
 fn put_answer(out: &mut [u8], at: usize, answer: OneEnding) -> usize
     requires { at + longest_refusal ≤ length out.old }
     ensures { WroteWithin longest_refusal out.old at (ending_words answer) out.new result }

@@ -1,4 +1,6 @@
 // An answer as C has it: the paper's number and values.
+#![tactic(auto)]
+
 ghost use Rattle.std.specs.Prelude.{[], ◌∷◌, ◌≡◌};
 ghost use Rattle.paper.specs.Numbers.{refusal_numbers};
 ghost use Rattle.telling.specs.Told.{told, reading_told, listing_told, choosing_told, ending_told, laid};
@@ -7,7 +9,7 @@ use paper::{Answer, Choosing, Listing, OneEnding, Reading, Refusal};
 
 // What a call tells: 0 or the refusal's number, and the values in the paper's order, with zeros behind them.
 #[repr(C)]
-#[derive(Drop)]
+#[derive(Clone, Copy)]
 pub struct Told {
     pub refusal: usize,
     pub values: [usize; 4],
@@ -45,6 +47,7 @@ fn served(first: usize, second: usize, third: usize, fourth: usize) -> Told
 }
 
 // "fate; or characters, flagged, bytes; or taken; ..."
+#[tactic(auto, unfolding(crate::specs::Told::told))]
 pub fn tell(answer: Answer) -> Told
     ensures { result ≡ told answer }
 {
@@ -68,6 +71,7 @@ pub fn tell(answer: Answer) -> Told
 }
 
 // The number of items, or the refusal.
+#[tactic(auto, unfolding(crate::specs::Told::reading_told))]
 pub fn tell_reading(reading: Reading) -> Told
     ensures { result ≡ reading_told reading }
 {
@@ -78,6 +82,7 @@ pub fn tell_reading(reading: Reading) -> Told
 }
 
 // How many entries a list has and the sum of the accepted litres, or the refusal.
+#[tactic(auto, unfolding(crate::specs::Told::listing_told))]
 pub fn tell_listing(listing: Listing) -> Told
     ensures { result ≡ listing_told listing }
 {
@@ -88,6 +93,7 @@ pub fn tell_listing(listing: Listing) -> Told
 }
 
 // Divisor, period, the deviation's size, and 1 where it is negative; or the refusal.
+#[tactic(auto, unfolding(crate::specs::Told::choosing_told))]
 pub fn tell_choosing(choosing: Choosing) -> Told
     ensures { result ≡ choosing_told choosing }
 {
@@ -102,6 +108,7 @@ pub fn tell_choosing(choosing: Choosing) -> Told
 }
 
 // 1 and the single setting, or 0 where none does; or the refusal.
+#[tactic(auto, unfolding(crate::specs::Told::ending_told))]
 pub fn tell_ending(ending: OneEnding) -> Told
     ensures { result ≡ ending_told ending }
 {

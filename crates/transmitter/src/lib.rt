@@ -1,4 +1,6 @@
 // The transmitter of one channel by value: load, line turn, CTS and special.
+#![tactic(auto)]
+
 ghost use Rattle.std.specs.Prelude.{◌≡◌, false, ◌&&◌, ◌<◌, ◌≤◌, eqb};
 ghost use Rattle.paper.specs.Arrival.{NL};
 ghost use Rattle.paper.specs.Transmitter.{fresh_transmitter, held, special_character};
@@ -10,7 +12,7 @@ use paper::{Answer, Flags, Refusal, Settings};
 // "a transmit queue of 12 bytes", the oldest at place 0, zeros behind the last; an owed NL; whether a special character waits, and
 // which (0 where none does); CTS.
 #[repr(C)]
-#[derive(Drop)]
+#[derive(Clone, Copy)]
 pub struct Transmitter {
     pub count: usize,
     pub bytes: [u8; Transmitter::DEPTH],
@@ -21,7 +23,7 @@ pub struct Transmitter {
 }
 
 // What a call answers, and the transmitter after it.
-#[derive(Drop)]
+#[derive(Clone, Copy)]
 pub struct Answered {
     pub answer: Answer,
     pub transmitter: Transmitter,
@@ -36,6 +38,7 @@ impl Transmitter {
     pub const DEPTH: usize = 12;
 
     // "queues empty, nothing pending, ... CTS 0"
+    #[tactic(auto, unfolding(crate::specs::Held::transmitter_of, paper::specs::Transmitter::transmit_depth))]
     pub fn fresh() -> Transmitter
         ensures { result ≡ transmitter_of fresh_transmitter }
     {
@@ -87,6 +90,7 @@ impl Transmitter {
     }
 
     // "takes the first min(length, room) bytes; answers that number. Load of nothing takes 0."
+    #[tactic(auto, unfolding(paper::specs::Transmitter::transmit_depth))]
     pub fn load(self, bytes: &[u8]) -> Answered
         requires { Sound self }
         ensures { result ≡ loads self bytes.now }
@@ -109,6 +113,7 @@ impl Transmitter {
 
     // "A waiting special goes first, even when stopped or CTS is 0, even between CR and its NL. Else nothing goes if stopped, or if
     // field 9 is 1 and CTS is 0."
+    #[tactic(auto, unfolding(crate::specs::Held::sends_next, crate::specs::Held::transmitter_in))]
     pub fn turn(self, s: Settings, f: Flags) -> Answered
         requires { Sound self }
         ensures { result ≡ turns s f self }
@@ -130,6 +135,7 @@ impl Transmitter {
     }
 
     // "nothing goes if stopped, or if field 9 is 1 and CTS is 0"
+    #[tactic(auto, unfolding(crate::specs::Held::transmitter_in))]
     fn is_held(self, s: Settings, f: Flags) -> bool
         ensures { result ≡ held s f (transmitter_in self) }
     {
@@ -143,6 +149,7 @@ impl Transmitter {
     }
 
     // "Else an owed NL; else the head of the queue; else nothing." "An owed NL is sent even if field 10 was since turned off."
+    #[tactic(auto, unfolding(crate::specs::Held::sends_next))]
     fn send_next(self, s: Settings) -> Answered
         requires { Sound self }
         ensures { result ≡ sends_next s self self.owed }
@@ -163,6 +170,7 @@ impl Transmitter {
     }
 
     // "With field 10, a queued NL goes out as CR, leaves the queue and owes an NL."
+    #[tactic(auto, unfolding(paper::specs::Transmitter::transmit_depth))]
     fn send_head(self, s: Settings) -> Answered
         requires { (Sound self) × (0 < self.count) }
         ensures { result ≡ sends_next s self false }
@@ -187,6 +195,7 @@ impl Transmitter {
     }
 
     // Refusal 10, "CTS neither 0 nor 1"
+    #[tactic(auto, unfolding(crate::specs::Held::sets_cts))]
     pub fn set_cts(self, value: u8) -> Answered
         requires { Sound self }
         ensures { result ≡ sets_cts self value }
@@ -204,6 +213,7 @@ impl Transmitter {
     }
 
     // "the present special character s waits for the next turn"; refusal 6, "special not 1 to 4", before 7, "a special already waits"
+    #[tactic(auto, unfolding(crate::specs::Held::asks_special))]
     pub fn ask_special(self, s: Settings, number: u8) -> Answered
         requires { Sound self }
         ensures { result ≡ asks_special s self number }
