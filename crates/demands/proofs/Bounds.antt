@@ -82,7 +82,7 @@ module _ {A : Type 0} (z : Size) (one : 1 ≤ z.most) where
 
   reached : (K : Card A) (cs : List (Named A Call)) → Sound z K → Sound z (end z K cs)
   reached K [] s = s
-  reached K (c ∷ cs) s = reached _ cs (kept c.name K c.call s)
+  reached K (c ∷ cs) s = reached (step z c.name K c.call).next cs (kept c.name K c.call s)
 
 pub bounds : Bounds
 bounds =

@@ -40,7 +40,7 @@ module _ {A : Type 0} (z : Size) where
   -- calls that are no pick do not move the place
   stays : (K : Card A) (cs : List (Named A Call)) → NoPick cs → (end z K cs).place ≡ K.place
   stays K [] h = refl
-  stays K (c ∷ cs) h = stays _ cs h.1 ∙ still c.call h.0
+  stays K (c ∷ cs) h = stays (step z c.name K c.call).next cs h.1 ∙ still c.call h.0
     where
       still : (d : Call) → is_pick d ≡ false → (step z c.name K d).next.place ≡ K.place
       still (on n d) e = isolation.place A z c.name K n d

@@ -190,7 +190,8 @@ module _ {A : Type 0} where
           has = λ s. within_front _ (names_of (drop m p.slots)) _ (names_of (drop n q.slots)) b.within (simp length-map (omega (arith, b.room)));
           accepts = c.accepts;
         })
-        (stays_ahead _ _ _ _ rs ms' ns' l c.ahead)
+        (stays_ahead (g ++ names_of (oldest m p)) (h ++ names_of (oldest n q)) (place d r.name r.ruling (removed m p)).queue
+        (place e r.name r.ruling (removed n q)).queue rs ms' ns' l c.ahead)
 
     -- from empty queues on, what is asked for before the first arrival does not matter
     from_empty : (rs : List (Ruled A)) (ms ns : List ℕ) → length ms ≡ length rs → length ns ≡ length rs → Each ◌≤◌ (tail ms) (tail ns)
