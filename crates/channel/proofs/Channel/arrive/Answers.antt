@@ -9,7 +9,7 @@ use Rattle.channel.proofs.Channel.arrive.Goals as goal
 pub returns-then-kind-gt3 : goal.returns-then-kind-gt3
 returns-then-kind-gt3 c =
     let x = c.args.self in
-    rw c.refuse.ensures (refuses x c.requires (arrive c.args.kind c.args.byte) BadKind (bad_kind x _ _ c.if-kind-gt3.true))
+    rw c.refuse.ensures (refuses x c.requires (arrive c.args.kind c.args.byte) BadKind (bad_kind x _ _ (omega arith)))
 
 pub place-placed-requires : goal.place-placed-requires
 place-placed-requires c = (queue_sound c.args.self c.requires, (lit≤ tt, lit≤ tt))
