@@ -10,7 +10,7 @@ use native.Mathlib.Nat.{mul-le-mul, div-mul-le_self, lt-div-mul-add, zero-div}
 use native.Mathlib.Omega.{arith}
 use borrow.Author.Tests.{ltb-true, ltb-false, lt-ltb, le-ltb, not-true}
 use lib.Dec.{ltb}
-use lib.IntN.{ℤ, pos, negsuc, neg_ℤ, nat_abs, sub_ℕ, ◌-ℤ◌, ◌*ℤ◌}
+use lib.IntN.{ℤ, pos, negsuc, neg_ℤ, nat_abs, ◌-ℤ◌, ◌*ℤ◌}
 use lib.Signed.{quot_z}
 use Rattle.paper.specs.Choice.{if◌then◌else◌, outside}
 use Rattle.paper.specs.Numbers.{negative}
