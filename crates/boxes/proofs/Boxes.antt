@@ -166,7 +166,7 @@ stored_out s none = refl
 stored_out s (some b) = rw (stored_good s b)
 
 step7_stores : (s : Settings) (running : Bool) (l : List ℕ) → each (λ b. stored (step7 s running b).ruling) l ≡ map good (acts s.endings l)
-unfolding step7
+unfolding step7 steps.ending ending_of
 step7_stores s running [] = refl
 step7_stores s running (b ∷ l) =
     let out = comes (ending_of s.endings b) in
@@ -184,7 +184,7 @@ module _ (s : Settings) (p : Plainly s) (f : Flags) (unmarked : f.literal ≡ fa
   handed_out (some b) = rw (ne_eqb s.damaged 4 p.unmarked)
 
   hands_on : (l : List ℕ) → each (λ b. handed_on (arrival s f 0 b).ruling) l ≡ acts s.endings l
-  unfolding step7
+  unfolding step7 steps.ending ending_of
   hands_on [] = refl
   hands_on (b ∷ l) = rw (takes_step7 b, handed_out (ending_of s.endings b), hands_on l)
 
