@@ -8,7 +8,8 @@ use Prim.Native.Nat.{ℕ, ◌+◌, ◌≤◌}
 use native.Mathlib.Omega.{arith}
 use lib.Dec.{eqb, ltb}
 use borrow.Author.Tests.{eqb-true, ne_eqb, not-true, ltb-false, le-ltb}
-use Rattle.paper.specs.Choice.{if◌then◌else◌, outside}
+use Rattle.std.specs.Prelude.{if◌then◌else◌}
+use Rattle.paper.specs.Choice.{outside}
 use Rattle.paper.specs.Rate.{every, first_of}
 use Rattle.paper.specs.Text.{each}
 use Rattle.paper.specs.Arrival as steps

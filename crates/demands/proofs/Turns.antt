@@ -9,7 +9,7 @@ use native.Mathlib.Omega.{arith}
 use lib.Dec.{eqb}
 use lib.ListN.{length}
 use borrow.Author.Tests.{eqb-true}
-use Rattle.paper.specs.Choice.{if◌then◌else◌}
+use Rattle.std.specs.Prelude.{if◌then◌else◌}
 use Rattle.paper.specs.Given.{given}
 use Rattle.paper.specs.Arrival.{CR, NL}
 use Rattle.paper.specs.Transmitter.{Transmitter, with_bytes, with_owed, sends, send_next, held}

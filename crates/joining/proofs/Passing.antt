@@ -9,7 +9,8 @@ use native.Mathlib.Omega.{arith}
 use lib.Bits.{bit_and}
 use lib.Dec.{eqb, ltb}
 use borrow.Author.Tests.{eqb-true, ne_eqb, ltb-true, ltb-false, lt-ltb, le-ltb}
-use Rattle.paper.specs.Choice.{if◌then◌else◌, outside}
+use Rattle.std.specs.Prelude.{if◌then◌else◌}
+use Rattle.paper.specs.Choice.{outside}
 use Rattle.paper.specs.Rate.{first_of}
 use Rattle.paper.specs.Arrival.{CR, NL, ending}
 use Rattle.paper.specs.Settings.{settings_of}
