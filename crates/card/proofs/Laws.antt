@@ -9,7 +9,7 @@ use lib.Dec.{leb, lit≤}
 use lib.ListN
 use lib.ListN.{length, get_or, set, length-map}
 use borrow.Author.Tests.{lt-ltb, le-ltb}
-use Rattle.paper.specs.Choice.{if◌then◌else◌}
+use Rattle.std.specs.Prelude.{if◌then◌else◌}
 use Rattle.paper.specs.Settings.{Size}
 use Rattle.paper.specs.Given.{Given, refused}
 use Rattle.paper.specs.Channel.{ChannelCall, lent, fresh}

@@ -9,7 +9,7 @@ use lib.Dec.{leb, ltb}
 use lib.ListN.{length, take, drop}
 use lib.Seq.{take-nil, drop-nil}
 use borrow.Author.Tests.{ltb-true, ltb-false, lt-leb}
-use Rattle.paper.specs.Choice.{if◌then◌else◌}
+use Rattle.std.specs.Prelude.{if◌then◌else◌}
 use Rattle.paper.specs.Stream.{Character, damaged, byte}
 use Rattle.paper.specs.Decimal.{spelled}
 use Rattle.paper.specs.Confirmations.{fits, all_fit, right_length, confirmation_of, any_damaged, found}
