@@ -40,9 +40,9 @@ few (suc k) (suc j) n h = let p = pow-suc 10 (suc k) in go (ltb n 10) (few k j (
     go true h = omega arith
     go false h = omega arith
 
-pub length-decimal : (n : ℕ) → length (decimal n) ≡ digits_of n n
+pub length_decimal : (n : ℕ) → length (decimal n) ≡ digits_of n n
 unfolding decimal
-length-decimal n = length_digits (digits_of n n) n
+length_decimal n = length_digits (digits_of n n) n
 
 pub decimal_few : (k n : ℕ) → n < 10 ^ suc k → length (decimal n) ≤ suc k
-decimal_few k n h = rw length-decimal (few k n n h)
+decimal_few k n h = rw length_decimal (few k n n h)

@@ -30,9 +30,9 @@ pub wrote_one : (out : List ℕ) (at character : ℕ) → at < length out → Wr
 wrote_one out at character h = record { place = refl; front = rw add-one (take-suc-set out at character h) }
 
 -- two characters a number
-pub length-hexadecimal : (l : List ℕ) → length (hexadecimal l) ≡ 2 * length l
-length-hexadecimal [] = refl
-length-hexadecimal (b ∷ l) = omega (arith, length-hexadecimal l)
+pub length_hexadecimal : (l : List ℕ) → length (hexadecimal l) ≡ 2 * length l
+length_hexadecimal [] = refl
+length_hexadecimal (b ∷ l) = omega (arith, length_hexadecimal l)
 
 -- a refusal's number and what follows it
 pub refused : {before after rest : List ℕ} {at end number first : ℕ} (r : Refusal) → refusal_numbers r ≡ first ∷ rest → number ≡ refusal_number r
