@@ -9,16 +9,35 @@ use native.Mathlib.Omega.{arith}
 use lib.Bits.{bit_and}
 use lib.Dec.{eqb, ltb}
 use borrow.Author.Tests.{eqb-true, ne_eqb, ltb-true, ltb-false, lt-ltb, le-ltb}
-use Rattle.paper.specs.Choice.{if◌then◌else◌, outside}
+use Rattle.std.specs.Prelude.{if◌then◌else◌}
+use Rattle.paper.specs.Choice.{outside}
 use Rattle.paper.specs.Rate.{first_of}
-use Rattle.paper.specs.Arrival.{CR, NL}
+use Rattle.paper.specs.Arrival.{CR, NL, ending}
+use Rattle.paper.specs.Settings.{settings_of}
 use Rattle.paper.specs.TwoBoxes.{ending_of, comes, acts, followed, works, single, answered, one_ending}
+use Rattle.paper.specs.declared.Settings.{Settings}
 use Rattle.paper.specs.declared.Refusal.TheVariants.{BadField}
 use Rattle.paper.specs.declared.OneEnding.{OneEnding}
 use Rattle.paper.specs.declared.OneEnding.TheVariants.{Does, NoneDoes, Unanswered}
 use Rattle.rules.specs.Table.{comes_out}
-use Rattle.rules.proofs.Rows.{by_bits, no_row}
+use Rattle.rules.proofs.Rows.{from_bits, by_bits, no_row}
 use Rattle.joining.specs.Passing.{onward, passed, Ends, dropped, as_cr, as_nl, bits_of_cr, bit_of_nl, least_for}
+
+-- A VALUE OF FIELD 4, as the settings of a channel have it
+
+abbrev settings_with : (value : ℕ) → Settings
+settings_with value = settings_of (0 ∷ 0 ∷ 0 ∷ value ∷ [])
+
+-- a value of the eight: by its bits
+pub value_by_bits : (value b : ℕ) → (eqb b CR || eqb b NL) ≡ true → value ≤ 7
+    → ending_of value b ≡ (if eqb b CR then (from_bits value).cr else (from_bits value).nl)
+unfolding ending ending_of
+value_by_bits value b one h = by_bits (settings_with value) b one h
+
+-- a value above 7 has no row: nothing comes out
+pub value_no_row : (value b : ℕ) → (eqb b CR || eqb b NL) ≡ true → 7 < value → ending_of value b ≡ none
+unfolding ending ending_of
+value_no_row value b one h = no_row (settings_with value) b one h
 
 -- WHAT COMES OUT OF A ROW
 
@@ -40,9 +59,9 @@ row_out : (value b : ℕ) → (eqb b CR || eqb b NL) ≡ true → Out (ending_of
 row_out value b one = go (ltb 7 value) refl
   where
     go : (t : Bool) → ltb 7 value ≡ t → Out (ending_of value b)
-    go true e = rw (no_row value b one (ltb-true 7 value e)) nothing
+    go true e = rw (value_no_row value b one (ltb-true 7 value e)) nothing
     go false e =
-        rw (by_bits value b one (ltb-false 7 value e))
+        rw (value_by_bits value b one (ltb-false 7 value e))
         (by_its_bits (eqb b CR) (eqb (bit_and value 4) 0) (eqb (bit_and value 2) 0) (eqb (bit_and value 1) 0))
 
 none_out : (out : ℕ) → comes_out out ≡ none → out ≡ 0
