@@ -122,34 +122,6 @@ none_with dropped = refl
 none_with as_cr = refl
 none_with as_nl = refl
 
--- each bit, by what comes out
-pub dropped_bit : (cr : ℕ) → cr ≡ 0 → 4 ≡ bits_of_cr cr
-dropped_bit cr e = rw e
-
-pub turned_bit : (cr : ℕ) → cr ≢ 0 → cr ≡ NL → 2 ≡ bits_of_cr cr
-turned_bit cr there e = rw e
-
-pub no_bits : (cr : ℕ) → cr ≢ 0 → cr ≢ NL → 0 ≡ bits_of_cr cr
-no_bits cr there e = rw (ne_eqb cr 0 there, ne_eqb cr NL e)
-
-pub last_bit : (nl : ℕ) → nl ≡ CR → 1 ≡ bit_of_nl nl
-last_bit nl e = rw e
-
-pub no_last_bit : (nl : ℕ) → nl ≢ CR → 0 ≡ bit_of_nl nl
-no_last_bit nl e = rw (ne_eqb nl CR e)
-
--- five is the most
-pub small : (cr nl : ℕ) → bits_of_cr cr + bit_of_nl nl < 6
-small cr nl = go (eqb cr 0) (eqb cr NL) (eqb nl CR)
-  where
-    go : (d t n : Bool) → (if d then 4 else if t then 2 else 0) + (if n then 1 else 0) < 6
-    go true t true = omega arith
-    go true t false = omega arith
-    go false true true = omega arith
-    go false true false = omega arith
-    go false false true = omega arith
-    go false false false = omega arith
-
 pub does_with : {cr nl : ℕ} → Ends cr → Ends nl → nl ≢ 0 → Does (bits_of_cr cr + bit_of_nl nl) ≡ answered (least_for (comes_out cr) (comes_out nl))
 unfolding least_for first_of ending_of
 does_with c dropped there = absurd (there refl)
