@@ -8,7 +8,7 @@ use native.Mathlib.Omega.{arith}
 use lib.Dec.{eqb, leb, ltb}
 use lib.ListN.{length, get_or, take, length-take}
 use borrow.Author.Tests.{eqb-true, leb-true, ltb-true, ltb-false, ne_eqb}
-use Rattle.paper.specs.Choice.{if◌then◌else◌}
+use Rattle.std.specs.Prelude.{if◌then◌else◌}
 use Rattle.paper.specs.Settings.{Size}
 use Rattle.paper.specs.Card.{on, pick}
 use Rattle.paper.specs.Frames.{call_of}
@@ -126,21 +126,21 @@ module _ (z : Size) (buffer : List ℕ) (n : ℕ) (room : n ≤ length buffer) w
     row_0_a r e = one_length 0x0A 2 (λ f. asked.State) r (omega arith) (λ l. refl) e (λ f k. rw k)
 
     -- "an unknown first byte"
-    pub unknown : (((((((((Unit {0} × (get_or buffer 0 0 ≡ 1 → ⊥)) × (get_or buffer 0 0 ≡ 2 → ⊥)) × (get_or buffer 0 0 ≡ 3 → ⊥)) × (get_or buffer 0 0 ≡ 4 → ⊥))
-        × (get_or buffer 0 0 ≡ 5 → ⊥)) × (get_or buffer 0 0 ≡ 6 → ⊥)) × (get_or buffer 0 0 ≡ 7 → ⊥)) × (get_or buffer 0 0 ≡ 8 → ⊥)) × (get_or buffer 0 0 ≡ 9 → ⊥))
-        × (get_or buffer 0 0 ≡ 10 → ⊥) → call_of z frame ≡ none
+    pub unknown : (get_or buffer 0 0 ≡ 1 → ⊥) → (get_or buffer 0 0 ≡ 2 → ⊥) → (get_or buffer 0 0 ≡ 3 → ⊥) → (get_or buffer 0 0 ≡ 4 → ⊥)
+        → (get_or buffer 0 0 ≡ 5 → ⊥) → (get_or buffer 0 0 ≡ 6 → ⊥) → (get_or buffer 0 0 ≡ 7 → ⊥) → (get_or buffer 0 0 ≡ 8 → ⊥) → (get_or buffer 0 0 ≡ 9 → ⊥)
+        → (get_or buffer 0 0 ≡ 10 → ⊥) → call_of z frame ≡ none
     unfolding call_of
-    unknown ne =
+    unknown n1 n2 n3 n4 n5 n6 n7 n8 n9 n10 =
         simp (
           at 0 some_bytes,
-          ne_eqb _ _ ne.0.0.0.0.0.0.0.0.0.1,
-          ne_eqb _ _ ne.0.0.0.0.0.0.0.0.1,
-          ne_eqb _ _ ne.0.0.0.0.0.0.0.1,
-          ne_eqb _ _ ne.0.0.0.0.0.0.1,
-          ne_eqb _ _ ne.0.0.0.0.0.1,
-          ne_eqb _ _ ne.0.0.0.0.1,
-          ne_eqb _ _ ne.0.0.0.1,
-          ne_eqb _ _ ne.0.0.1,
-          ne_eqb _ _ ne.0.1,
-          ne_eqb _ _ ne.1,
+          ne_eqb _ _ n1,
+          ne_eqb _ _ n2,
+          ne_eqb _ _ n3,
+          ne_eqb _ _ n4,
+          ne_eqb _ _ n5,
+          ne_eqb _ _ n6,
+          ne_eqb _ _ n7,
+          ne_eqb _ _ n8,
+          ne_eqb _ _ n9,
+          ne_eqb _ _ n10,
         )

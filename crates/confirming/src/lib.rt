@@ -20,6 +20,7 @@ enum Counted {
 }
 
 // Counts the entries of a stream of which nothing is broken, for a list of so many places.
+#[tactic(auto, using(crate::proofs::Passes::passing_start))]
 fn count(stream: &[u8], most: usize) -> Counted
     requires { (paper.readout stream.now).rest ≡ [] }
     ensures { result ≡ counted_in (paper.readout stream.now).characters most }
@@ -87,6 +88,7 @@ fn number_for(judgement: Judgement) -> u8
 
 // Puts all entries of a stream into the fronts of four columns; answers how many. Neither a broken FF nor a full count comes: nothing is broken, and
 // all can be counted.
+#[tactic(auto, using(crate::proofs::Passes::putting_start, crate::proofs::Passes::never_broken, crate::proofs::Passes::never_full))]
 fn put_entries(
     stream: &[u8],
     places: &mut [usize],
@@ -128,6 +130,7 @@ fn put_entries(
 }
 
 // "16 if the input has more entries than the lent list has places": then, as in every refusal, nothing is written.
+#[tactic(auto, using(crate::proofs::Calls::refuses_many))]
 fn list_whole(
     stream: &[u8],
     places: &mut [usize],
@@ -155,6 +158,7 @@ fn list_whole(
 
 // Lists the confirmations of a marked stream in four lent columns, which have as many places as the shortest of them has: how many, and the sum of the
 // accepted litres; or refusal 8 or 16, in this order.
+#[tactic(auto, using(stream::proofs::Laws::nothing_left))]
 pub fn list(
     stream: &[u8],
     places: &mut [usize],

@@ -8,7 +8,7 @@ use native.Mathlib.Nat.{pow-suc}
 use lib.Dec.{ltb}
 use lib.ListN.{length, length-append}
 use borrow.Author.Tests.{lt-ltb, le-ltb}
-use Rattle.paper.specs.Choice.{if◌then◌else◌}
+use Rattle.std.specs.Prelude.{if◌then◌else◌}
 use Rattle.paper.specs.Decimal.{last_digits, digits_of, decimal}
 
 pub length_digits : (count n : ℕ) → length (last_digits count n) ≡ count
@@ -40,9 +40,9 @@ few (suc k) (suc j) n h = let p = pow-suc 10 (suc k) in go (ltb n 10) (few k j (
     go true h = omega arith
     go false h = omega arith
 
-pub length-decimal : (n : ℕ) → length (decimal n) ≡ digits_of n n
+pub length_decimal : (n : ℕ) → length (decimal n) ≡ digits_of n n
 unfolding decimal
-length-decimal n = length_digits (digits_of n n) n
+length_decimal n = length_digits (digits_of n n) n
 
 pub decimal_few : (k n : ℕ) → n < 10 ^ suc k → length (decimal n) ≤ suc k
-decimal_few k n h = rw length-decimal (few k n n h)
+decimal_few k n h = rw length_decimal (few k n n h)

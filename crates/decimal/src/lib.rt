@@ -6,6 +6,7 @@ ghost use Rattle.paper.specs.Decimal.{number_of, last_digits, digits_of, decimal
 ghost use Rattle.hexadecimal.specs.Written.{Wrote};
 
 // "A word that is no decimal number, or too large for u32" stands for the most that u32 holds, which is outside every range.
+#[tactic(auto, using(crate::proofs::Words::is_digit, crate::proofs::Words::below_digits, crate::proofs::Words::above_digits, crate::proofs::Words::no_word, crate::proofs::Words::read_none, crate::proofs::Words::read_other, crate::proofs::Words::read_too_large, crate::proofs::Words::read_more, crate::proofs::Words::read_all))]
 pub fn number_of(word: &[u8]) -> u32
     ensures { result ≡ number_of word.now }
 {
@@ -32,6 +33,7 @@ pub fn number_of(word: &[u8]) -> u32
 }
 
 // A text, from a place on; answers the place behind it, as all that put something here do.
+#[tactic(auto, using(crate::proofs::Texts::forwards_none, crate::proofs::Texts::forwards_more, crate::proofs::Texts::forwards_all))]
 pub fn put_text(out: &mut [u8], at: usize, text: &[u8]) -> usize
     requires { at + length text.now ≤ length out.old }
     ensures { Wrote out.old at text.now out.new result }
@@ -45,6 +47,7 @@ pub fn put_text(out: &mut [u8], at: usize, text: &[u8]) -> usize
 }
 
 // How many digits a number has.
+#[tactic(auto, using(crate::proofs::Digits::one_digit, crate::proofs::Digits::digits_more))]
 fn digits_of(number: usize) -> usize
     ensures { result ≡ digits_of number number }
 {
@@ -58,6 +61,7 @@ fn digits_of(number: usize) -> usize
 }
 
 // The last of so many digits of a number, from the last of their places back to the first.
+#[tactic(auto, using(crate::proofs::Texts::backwards_none))]
 pub fn put_digits(out: &mut [u8], at: usize, count: usize, number: usize) -> usize
     requires { at + count ≤ length out.old }
     ensures { Wrote out.old at (last_digits count number) out.new result }
@@ -73,7 +77,7 @@ pub fn put_digits(out: &mut [u8], at: usize, count: usize, number: usize) -> usi
 }
 
 // Without leading zeros.
-#[tactic(auto, unfolding(paper::specs::Decimal::decimal))]
+#[tactic(auto, using(crate::proofs::Digits::length_decimal), unfolding(paper::specs::Decimal::decimal))]
 pub fn put_decimal(out: &mut [u8], at: usize, number: usize) -> usize
     requires { at + length (decimal number) ≤ length out.old }
     ensures { Wrote out.old at (decimal number) out.new result }
@@ -83,6 +87,7 @@ pub fn put_decimal(out: &mut [u8], at: usize, number: usize) -> usize
 }
 
 // A text, and a number behind it.
+#[tactic(auto, using(hexadecimal::proofs::Laws::wrote_then))]
 pub fn put_behind(out: &mut [u8], at: usize, told: &[u8], number: usize) -> usize
     requires { at + length told.now + length (decimal number) ≤ length out.old }
     ensures { Wrote out.old at (told.now ++ decimal number) out.new result }

@@ -5,7 +5,7 @@ use mathlib.Core.Option.{Option, none, some}
 use Prim.Native.Nat.{ℕ, ◌+◌}
 use native.Mathlib.Omega.{arith}
 use Rattle.paper.specs.Stream.{Character}
-use Rattle.paper.specs.Confirmations.{Mark, start, finish, inner, mark, ahead, body_at, body, Run, run_at, runs_from, Finding, found, findings, judge, judged, accepted, litres, litres_of}
+use Rattle.paper.specs.Confirmations.{Mark, start, finish, inner, mark, ahead, body_at, body, Run, run_at, runs_from, Finding, findings, judge, judged, accepted, litres, litres_of}
 use Rattle.finding.specs.Finder.{fresh, grow, closing, quiet, tell, close, step_at, step, beginning, told, tells, after, Finds}
 use Rattle.paper.specs.declared.Confirmation.{Confirmation}
 use Rattle.paper.specs.declared.Entry.{Entry}

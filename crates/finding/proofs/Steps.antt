@@ -1,4 +1,5 @@
 -- One law for each way through the finder's code.
+use Rattle.std.specs.Prelude.{if◌then◌else◌}
 use mathlib.Core.Path.{◌≡◌, refl}
 use mathlib.Core.Bool.{Bool, true, false}
 use mathlib.Core.Option.{none, some}
@@ -6,10 +7,9 @@ use Prim.Native.Nat.{ℕ, zero, suc, ◌+◌, ◌*◌, ◌-◌, ◌≤◌, ◌<�
 use native.Mathlib.Omega.{arith}
 use lib.Dec.{eqb, ltb}
 use borrow.Author.Tests.{ne_eqb, lt-ltb, le-ltb, le-leb, lt-leb}
-use Rattle.paper.specs.Choice.{if◌then◌else◌}
-use Rattle.paper.specs.Stream.{Character, damaged}
+use Rattle.paper.specs.Stream.{Character}
 use Rattle.paper.specs.Decimal.{digit}
-use Rattle.paper.specs.Confirmations.{mark, fits, next, judgement_on, judgement, counted, litres_of, furthest}
+use Rattle.paper.specs.Confirmations.{mark, fits, next, judgement_on, counted, litres_of, furthest}
 use Rattle.finding.specs.Finder.{formed, other_form, form_step, content_in, fresh, grown, grow, closing, quiet, tell, close, step, counts, full, advance}
 use Rattle.finding.specs.Bounds.{character, tens, SoundForm}
 use Rattle.paper.specs.declared.Confirmation.{Confirmation}

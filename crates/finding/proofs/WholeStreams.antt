@@ -7,13 +7,13 @@ use native.Mathlib.Omega.{arith}
 use lib.Dec.{leb}
 use lib.ListN.{length, length-append}
 use borrow.Author.Tests.{eq-eqb, ne_eqb, le-leb, leb-true}
-use Rattle.paper.specs.Choice.{if◌then◌else◌}
+use Rattle.std.specs.Prelude.{if◌then◌else◌}
 use Rattle.paper.specs.Stream.{Character, readout}
-use Rattle.paper.specs.Confirmations.{sum, countable, furthest, litres}
+use Rattle.paper.specs.Confirmations.{sum, countable, furthest}
 use Rattle.paper.specs.Yield.{counted_front}
 use Rattle.finding.specs.Finder.{after}
 use Rattle.finding.specs.Finder as finder
-use Rattle.finding.specs.Search.{beginning, comes_to, Whole, counted, uncounted, WholeStreams}
+use Rattle.finding.specs.Search.{comes_to, Whole, counted, uncounted, WholeStreams}
 use Rattle.finding.specs.declared.Finder.{Finder}
 use Rattle.finding.proofs.Finds.{after_pieces, sum_after}
 use Rattle.finding.proofs.Outcomes.{sum_of, searches}

@@ -77,6 +77,7 @@ fn other_form() -> Form
 }
 
 // "a four-digit number, a space, one to six digits of litres": the form with one byte more.
+#[tactic(auto, using(crate::proofs::Steps::number_small, crate::proofs::Steps::litres_small, crate::proofs::Steps::form_long, crate::proofs::Steps::form_space, crate::proofs::Steps::form_no_space, crate::proofs::Steps::form_low, crate::proofs::Steps::form_high, crate::proofs::Steps::form_number, crate::proofs::Steps::form_litres))]
 fn form_step(f: Form, b: u8) -> Form
     requires { SoundForm f }
     ensures { result ≡ the.form_step f b }
@@ -243,6 +244,7 @@ fn tell(f: Finder, e: Entry) -> Step
 }
 
 // "One that holds a damaged character is listed as set aside ...; an undamaged one of another form isn't listed."
+#[tactic(auto, using(crate::proofs::Steps::litres_whole, crate::proofs::Steps::close_aside, crate::proofs::Steps::close_short, crate::proofs::Steps::close_long, crate::proofs::Steps::close_listed, crate::proofs::Steps::counted_small))]
 fn close(f: Finder, g: Begun) -> Step
     requires sound_finder { SoundFinder f }
     requires sound_form { SoundForm g.form }
@@ -287,6 +289,7 @@ fn finish(f: Finder) -> Step
 }
 
 // One character more: "from a good STX to the next good ETX; a new good STX abandons an unfinished one".
+#[tactic(auto, using(crate::proofs::Steps::step_damaged, crate::proofs::Steps::step_start, crate::proofs::Steps::step_finish, crate::proofs::Steps::step_inner))]
 fn follow(f: Finder, damaged: bool, byte: u8) -> Step
     requires { SoundFinder f }
     ensures { result ≡ the.step f (character damaged byte) }
@@ -324,6 +327,7 @@ fn full(f: Finder) -> Step
 }
 
 // The finder takes one character more, where its place and the litres can still be counted; where not it says so and stays as it is.
+#[tactic(auto, using(crate::proofs::Steps::beyond_places, crate::proofs::Steps::beyond_litres, crate::proofs::Steps::still_counted))]
 pub fn advance(f: Finder, damaged: bool, byte: u8) -> Step
     requires { SoundFinder f }
     ensures { result ≡ the.advance f (character damaged byte) }
@@ -421,6 +425,7 @@ fn behind(s: Search, width: usize, finder: Finder, told: Told) -> Taken
 }
 
 // A whole character, of so many bytes: the finder takes it.
+#[tactic(auto, using(crate::proofs::Searching::pass_nothing, crate::proofs::Searching::pass_one, crate::proofs::Searching::pass_full))]
 fn pass(s: Search, width: usize, damaged: bool, byte: u8) -> Taken
     requires sound_search { SoundSearch s }
     requires width_bound { width ≤ 3 }
@@ -441,6 +446,7 @@ fn pass(s: Search, width: usize, damaged: bool, byte: u8) -> Taken
 }
 
 // The byte behind an FF: "FF FF is good FF; FF 00 x is damaged x ... FF before any other byte ... is broken".
+#[tactic(auto, using(crate::proofs::Searching::doubled_one, crate::proofs::Searching::zero_follows, crate::proofs::Searching::broken_one))]
 fn after_mark(s: Search, byte: u8) -> Taken
     requires { SoundSearch s }
     ensures { result ≡ searched.taken_at PartRead.Mark s byte }
@@ -458,6 +464,7 @@ fn after_mark(s: Search, byte: u8) -> Taken
 }
 
 // "any other byte but FF is a good byte"
+#[tactic(auto, using(crate::proofs::Searching::mark_begins, crate::proofs::Searching::good_one))]
 fn between_characters(s: Search, byte: u8) -> Taken
     requires { SoundSearch s }
     ensures { result ≡ searched.taken_at PartRead.Nothing s byte }
@@ -469,6 +476,7 @@ fn between_characters(s: Search, byte: u8) -> Taken
 }
 
 // One byte more.
+#[tactic(auto, using(crate::proofs::Searching::taken, crate::proofs::Searching::taken_damaged))]
 pub fn take(s: Search, byte: u8) -> Taken
     requires { SoundSearch s }
     ensures { result ≡ searched.take s byte }
@@ -495,6 +503,7 @@ fn is_told(told: Told) -> bool
 // A STRETCH of good characters that neither begin nor end a run is gone through byte by byte, and the search is brought behind it at once.
 
 // Where the stretch from a place on ends: at an FF, an STX or an ETX, or at the piece's end.
+#[tactic(auto, using(crate::proofs::Stretching::plain_start, crate::proofs::Stretching::plain_more))]
 fn stretch_end(piece: &[u8], from: usize) -> usize
     requires { from ≤ length piece.now }
     ensures { PlainTo piece.now from result }
@@ -523,6 +532,7 @@ struct Stretch {
     form: Form,
 }
 
+#[tactic(auto, using(crate::proofs::Stretching::formed_start))]
 fn stretch_form(piece: &[u8], from: usize, start: Form) -> Stretch
     requires from_in_bounds { from ≤ length piece.now }
     requires sound_form { SoundForm start }
@@ -638,6 +648,7 @@ pub struct Next {
 }
 
 // Goes on in a piece from a place, to the next byte that tells something.
+#[tactic(auto, using(crate::proofs::Walking::follows_start, crate::proofs::Walking::follows_then, crate::proofs::Walking::walks_to_end))]
 pub fn go_on(s: Search, piece: &[u8], from: usize) -> Next
     requires sound_search { SoundSearch s }
     requires from_in_bounds { from ≤ length piece.now }

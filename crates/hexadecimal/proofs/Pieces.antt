@@ -11,7 +11,7 @@ use lib.Bits.{bit_or}
 use lib.ListN.{length, get_or, drop, set, length-set}
 use lib.Seq.{set-set, drop-cons}
 use Rattle.paper.specs.Frames.{digit, newline}
-use Rattle.hexadecimal.specs.LineSoFar.{value_or_16, from, Fits, left, Gathers}
+use Rattle.hexadecimal.specs.LineSoFar.{value_or_16, Fits, left, Gathers}
 use Rattle.hexadecimal.specs.Steps.{counted, Keeps, Reached, Paired, Follows}
 use Rattle.hexadecimal.specs.declared.LineSoFar.{LineSoFar}
 use Rattle.hexadecimal.specs.declared.Cut.{Cut}

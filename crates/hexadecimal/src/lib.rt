@@ -61,6 +61,7 @@ pub fn digits() -> [u8; 256]
 }
 
 // The value of a character, as the table has it.
+#[tactic(auto, using(crate::proofs::Bytes::table_long, crate::proofs::Bytes::entry))]
 fn value(digits: &[u8], character: u8) -> u8
     requires { digits.now ≡ digit_table }
     ensures { result ≡ value_or_16 (paper.digit character) }
@@ -185,6 +186,7 @@ fn capital(d: u8) -> u8
 }
 
 // A byte as two capitals, from a place on; answers the place behind them.
+#[tactic(auto, using(crate::proofs::Laws::wrote_byte))]
 pub fn put_byte(out: &mut [u8], at: usize, byte: u8) -> usize
     requires { at + 2 ≤ length out.old }
     ensures { Wrote out.old at (paper.hexadecimal (byte ∷ [])) out.new result }

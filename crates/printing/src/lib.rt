@@ -1,8 +1,7 @@
 // "one line of hexadecimal in capitals": numbers as a line, and the line of each sort of answer.
 #![tactic(auto)]
 
-ghost use Rattle.std.specs.Prelude.{◌≡◌, [], ◌∷◌, ◌+◌, ◌*◌, ◌<◌, ◌≤◌, nat_abs, length};
-ghost use Rattle.paper.specs.Choice.{if◌then◌else◌};
+ghost use Rattle.std.specs.Prelude.{◌≡◌, [], ◌∷◌, ◌+◌, ◌*◌, ◌<◌, ◌≤◌, nat_abs, length, if◌then◌else◌};
 ghost use Rattle.paper.specs.Numbers.{fate_number, negative, numbers};
 ghost use Rattle.hexadecimal.specs.Written.{Wrote};
 ghost use Rattle.printing.specs.Printed.{refusal_number, line_of, Room, SmallRefusal, SmallRead};
@@ -15,6 +14,7 @@ pub const LONGEST: usize = 2 * (3 + paper::LENT) + 1;
 const NEWLINE: u8 = 10;
 
 // A line of numbers, from a place on; answers the place behind it, as all that put something here do.
+#[tactic(auto, using(crate::proofs::Laws::length_hexadecimal))]
 fn put_numbers(out: &mut [u8], at: usize, numbers: &[u8]) -> usize
     requires { at + 2 * length numbers.now < length out.old }
     ensures { Wrote out.old at (line_of numbers.now) out.new result }

@@ -16,6 +16,7 @@ use paper::{Confirmation, Entry, Judgement};
 pub const LONGEST: usize = 20 + 1 + 9 + 4 + 1 + 10 + 1;
 
 // A text, a number and a newline: each of the last lines, and the end of an entry's.
+#[tactic(auto, using(hexadecimal::proofs::Laws::wrote_then))]
 fn put_line(out: &mut [u8], at: usize, told: &[u8], number: usize) -> usize
     requires { at + length told.now + length (decimal number) < length out.old }
     ensures { Wrote out.old at (told.now ++ decimal number ++ text "\n") out.new result }
@@ -25,7 +26,7 @@ fn put_line(out: &mut [u8], at: usize, told: &[u8], number: usize) -> usize
 }
 
 // `NUMBER LITRES` behind the word for how it is judged, and a newline: the number with its four digits, litres without leading zeros.
-#[tactic(auto, unfolding(paper::specs::Yield::words))]
+#[tactic(auto, using(hexadecimal::proofs::Laws::wrote_then), unfolding(paper::specs::Yield::words))]
 fn put_said(out: &mut [u8], at: usize, judged: &[u8], said: Confirmation) -> usize
     requires { at + length judged.now + longest_said ≤ length out.old }
     ensures { Wrote out.old at (judged.now ++ (words said ++ text "\n")) out.new result }
@@ -50,7 +51,7 @@ fn put_judgement(out: &mut [u8], at: usize, judgement: Judgement) -> usize
 }
 
 // An entry's line: its place, and how it is judged.
-#[tactic(auto, unfolding(paper::specs::Yield::line_of))]
+#[tactic(auto, using(hexadecimal::proofs::Laws::wrote_then), unfolding(paper::specs::Yield::line_of))]
 pub fn put_entry(out: &mut [u8], at: usize, entry: Entry) -> usize
     requires { Room at out.old }
     ensures { Wrote out.old at (line_of entry) out.new result }

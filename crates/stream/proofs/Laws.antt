@@ -14,7 +14,7 @@ use Rattle.paper.specs.Stream.{Character, good, damaged, Readout, first, readout
 use Rattle.paper.specs.declared.Refusal.TheVariants.{BrokenStream, ShortOutput}
 use Rattle.paper.specs.declared.Reading.TheVariants.{Items, Unread}
 use Rattle.stream.specs.Promise.{Promise, OneAnswer}
-use Rattle.stream.specs.Scan.{scanned}
+use Rattle.stream.specs.Scan.{scanned, ItemAt}
 use Rattle.stream.specs.declared.Scan.TheVariants.{Whole, Broken}
 
 -- nothing stands from the end on
@@ -92,6 +92,21 @@ module _ (s : List ℕ) (i : ℕ) where
         (λ l. l)
         (eq-or-lt_of_le {n = i + 2} (omega arith))
 
+    -- so FF 00 has its item
+    pub damaged_item : i < length s → get_or s i 0 ≡ 0xFF → get_or s (i + 1) 0 ≢ 0xFF
+        → ItemAt s i (record { sort = 1; byte = get_or s (i + 2) 0; width = 3 })
+    damaged_item h e f =
+        let two_more = second h e in
+        let three_more = third two_more e f in
+        record {
+          character = damaged _;
+          sort_is = refl;
+          byte_is = refl;
+          goes_on = damage three_more e (second_zero two_more e f);
+          some = omega arith;
+          within = omega arith;
+        }
+
 -- the scan goes on behind a character
 module _ (s : List ℕ) (i : ℕ) (before : ScannedTo s i) where
   passes : (j : ℕ) {c : Character} → readout (drop i s) ≡ first c (readout (drop j s)) → ScannedTo s j
@@ -161,6 +176,26 @@ module _ {field : Character → ℕ} {s lent buffer : List ℕ} {i count : ℕ} 
       ∙ sets-eq (map field (readout s).characters) lent 0 (rw (zero-add, length-map) fits)
       ∙ rw zero-add
 
+-- both buffers, as they are lent and as they stand when `count` items are read from the bytes before `at`
+pub record Writing (s sorts bytes sorts_now bytes_now : List ℕ) (at count : ℕ) : Type 0 where
+  pub within : at ≤ length s
+  pub few : count ≤ at
+  pub counted : count + length (readout (drop at s)).characters ≡ length (readout s).characters
+  pub whole : (readout (drop at s)).rest ≡ []
+  pub sorts_fill : Filling sort s sorts sorts_now at count
+  pub bytes_fill : Filling byte s bytes bytes_now at count
+
+-- at the end of the stream all items are written
+module _ (s sorts bytes sorts_now bytes_now : List ℕ) (at count : ℕ) (w : Writing s sorts bytes sorts_now bytes_now at count) (end : length s ≤ at) where
+  all_counted : count ≡ length (readout s).characters
+  all_counted = let none : length (readout (drop at s)).characters ≡ 0 = rw (over s at end) in omega (arith, w.counted)
+
+  pub sorts_written : length s ≤ length sorts → sorts_now ≡ front (map sort (readout s).characters) sorts
+  sorts_written h = filled w.sorts_fill end (omega (arith, all_counted, w.few, w.within))
+
+  pub bytes_written : length s ≤ length bytes → bytes_now ≡ front (map byte (readout s).characters) bytes
+  bytes_written h = filled w.bytes_fill end (omega (arith, all_counted, w.few, w.within))
+
 -- the clean front, as far as it was looked at
 module _ (s : List ℕ) (n : ℕ) where
   abbrev pub CleanTo : Type 0
@@ -181,6 +216,25 @@ clean_more s n clean h e = clean ∙ rw (one s n h, ne_eqb _ _ e, add-one, take-
 -- what is read is the answer and both buffers; its numbers follow
 pub promised : {s sorts bytes : List ℕ} {d : Decoded} → decode s sorts bytes ≡ d → Promise s sorts bytes d
 promised e = record { gives = sym e; says = rw e }
+
+module _ (s sorts bytes : List ℕ) where
+  pub promised_short_sorts : length sorts < length s → Promise s sorts bytes (record { answer = Unread ShortOutput; sorts = sorts; bytes = bytes })
+  promised_short_sorts h = promised (short s sorts bytes (inl h))
+
+  pub promised_short_bytes : length bytes < length s → Promise s sorts bytes (record { answer = Unread ShortOutput; sorts = sorts; bytes = bytes })
+  promised_short_bytes h = promised (short s sorts bytes (inr h))
+
+  module _ (h : length s ≤ length sorts) (k : length s ≤ length bytes) where
+    pub promised_broken : (place : ℕ) → Broken place ≡ scanned s (readout s).rest
+        → Promise s sorts bytes (record { answer = Unread (BrokenStream place); sorts = sorts; bytes = bytes })
+    promised_broken place e = promised (refuses s sorts bytes h k place e)
+
+    pub promised_items : (count : ℕ) (sorts_new bytes_new : List ℕ) → Whole ≡ scanned s (readout s).rest
+        → count ≡ length (readout s).characters
+        → sorts_new ≡ front (map sort (readout s).characters) sorts
+        → bytes_new ≡ front (map byte (readout s).characters) bytes
+        → Promise s sorts bytes (record { answer = Items count; sorts = sorts_new; bytes = bytes_new })
+    promised_items count sorts_new bytes_new e n f g = promised (serves s sorts bytes h k e ∙ cc)
 
 pub one_answer : OneAnswer
 one_answer s sorts bytes d d' p q = p.gives ∙ sym q.gives

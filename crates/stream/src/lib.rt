@@ -31,6 +31,7 @@ struct Found {
 }
 
 // "FF before any other byte, or cut off at the end, is broken; the first such FF is named."
+#[tactic(auto, using(crate::proofs::Laws::cut, crate::proofs::Laws::cut_zero, crate::proofs::Laws::astray, crate::proofs::Laws::names, crate::proofs::Laws::none_broken, crate::proofs::Laws::passes_plain, crate::proofs::Laws::passes_doubled, crate::proofs::Laws::passes_damage))]
 pub fn first_broken(stream: &[u8]) -> Scan
     ensures { result ≡ scanned stream.now (paper.readout stream.now).rest }
 {
@@ -60,6 +61,7 @@ pub fn first_broken(stream: &[u8]) -> Scan
 }
 
 // "FF FF is good FF; FF 00 x is damaged x; any other byte but FF is a good byte." Nothing from the place on is broken.
+#[tactic(auto, using(crate::proofs::Laws::damaged_item))]
 fn item_at(stream: &[u8], at: usize) -> Found
     requires { (at < length stream.now) × ((paper.readout (drop at stream.now)).rest ≡ []) }
     ensures { ItemAt stream.now at result }
@@ -89,6 +91,7 @@ fn item_at(stream: &[u8], at: usize) -> Found
 }
 
 // "The items go as two lists (0 good or 1 damaged; the byte) into the fronts of two lent buffers, and the answer is their number"
+#[tactic(auto, using(crate::proofs::Laws::sorts_written, crate::proofs::Laws::bytes_written))]
 fn write_items(stream: &[u8], sorts: &mut [u8], bytes: &mut [u8]) -> usize
     requires { ((paper.readout stream.now).rest ≡ [])
         × (length stream.now ≤ length sorts.old) × (length stream.now ≤ length bytes.old) }
@@ -109,6 +112,7 @@ fn write_items(stream: &[u8], sorts: &mut [u8], bytes: &mut [u8]) -> usize
 }
 
 // Reads a marked stream into two lent buffers: its items, or refusal 9 or 8; "9 comes before 8". "A refusal changes nothing."
+#[tactic(auto, using(crate::proofs::Laws::nothing_left, crate::proofs::Laws::promised_short_sorts, crate::proofs::Laws::promised_short_bytes, crate::proofs::Laws::promised_broken, crate::proofs::Laws::promised_items))]
 pub fn decode(stream: &[u8], sorts: &mut [u8], bytes: &mut [u8]) -> Reading
     ensures { Promise stream.now sorts.old bytes.old
         (record { answer = result; sorts = sorts.new; bytes = bytes.new }) }
@@ -126,6 +130,7 @@ pub fn decode(stream: &[u8], sorts: &mut [u8], bytes: &mut [u8]) -> Reading
 }
 
 // How many bytes stand before the first FF: all, where there is none.
+#[tactic(auto, using(crate::proofs::Laws::clean_ends, crate::proofs::Laws::clean_all, crate::proofs::Laws::clean_more))]
 fn clean_length(stream: &[u8]) -> usize
     ensures { (result ≤ length stream.now) × (take result stream.now ≡ paper.clean_front stream.now) }
 {
