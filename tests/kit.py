@@ -1,4 +1,4 @@
-"""What the tests share: the Rattle kit, how a program for x86-64 is run, how C is linked with the proved library, and the reference."""
+"""What the tests share: the Rattle kit, the programs as it links them, how C is linked with the proved library, and the reference."""
 import functools
 import os
 import platform
@@ -10,15 +10,15 @@ ROOT = os.path.dirname(os.path.dirname(os.path.realpath(__file__)))
 FRAMES = [os.path.join(ROOT, 'papergrotto'), 'frames']       # the frame program's command
 WORK = os.path.join(ROOT, 'target', 'tests')
 HEADERS = os.path.join(ROOT, 'include')
-LIBRARY = os.path.join(ROOT, 'target', 'staticlib', 'libpapergrotto.a')
+LIBRARY = os.path.join(ROOT, 'crates', 'papergrotto', 'out', 'libpapergrotto.a')
 
 if not __debug__:
     sys.exit('the tests tell what is wrong by assert, so they are not run with -O or PYTHONOPTIMIZE')
 
 
-def told(*command, **words):
+def told(*command, cwd=ROOT, **words):
     """What a command writes; where it fails, what it said, and the end."""
-    ran = subprocess.run(command, stdin=subprocess.DEVNULL, capture_output=True, check=False, cwd=ROOT, **words)
+    ran = subprocess.run(command, stdin=subprocess.DEVNULL, capture_output=True, check=False, cwd=cwd, **words)
     if ran.returncode != 0:
         sys.exit(f'{" ".join(command)} failed:\n{ran.stdout.decode()}{ran.stderr.decode()}')
     return ran.stdout.decode().strip()
@@ -44,34 +44,28 @@ def case(program):
 
 
 def kit():
-    """The kit's folder for this machine: rt doc answers KIT/docs/START-HERE.md."""
-    home = os.path.dirname(os.path.dirname(told('rt', 'doc')))
-    return os.path.join(home, 'on', platform.machine())
-
-
-def emulator():
-    """What stands before an x86-64 program's name on another machine: the kit's emulator."""
-    found = os.path.join(kit(), 'toolchain', 'bin', 'qemu-x86_64')
-    return [found] if os.access(found, os.X_OK) else []
-
-
-def runner():
-    """What stands before the name of a program that the kit linked: its loader, and before it the emulator where there is one."""
-    tools = os.path.join(kit(), 'toolchain')
-    return emulator() + [os.path.join(tools, 'lib', 'ld-linux-x86-64.so.2'), '--library-path', os.path.join(tools, 'lib')]
+    """The kit's folder: rt doc answers KIT/START-HERE.md."""
+    return os.path.dirname(told('rt', 'doc'))
 
 
 def linked(name):
-    """The words that start a program of the repository without its way in, which proves and links it first."""
+    """The words that start a program of the repository without its way in, which proves and links it first. It starts as any program of x86-64."""
     told(FRAMES[0], name)
-    return runner() + [os.path.join(ROOT, 'target', 'bin', name)]
+    return [os.path.join(ROOT, 'crates', name, 'out', name)]
+
+
+def sources():
+    """All files of the crates but for what rt makes of them, in out/."""
+    for folder, folders, names in os.walk(os.path.join(ROOT, 'crates')):
+        if os.path.basename(os.path.dirname(folder)) == 'crates' and 'out' in folders:
+            folders.remove('out')
+        yield from (os.path.join(folder, name) for name in names)
 
 
 def library():
     """The proved static library; it is proved and written first, unless it is newer than all that it is made of."""
-    sources = [os.path.join(folder, name) for folder, _, names in os.walk(os.path.join(ROOT, 'crates')) for name in names]
-    if not os.path.exists(LIBRARY) or max(map(os.path.getmtime, sources)) > os.path.getmtime(LIBRARY):
-        told('rt', 'staticlib', 'papergrotto')
+    if not os.path.exists(LIBRARY) or max(map(os.path.getmtime, sources())) > os.path.getmtime(LIBRARY):
+        told('rt', 'lib', cwd=os.path.join(ROOT, 'crates', 'papergrotto'))
     return LIBRARY
 
 
@@ -85,12 +79,12 @@ def c_compiler():
 
 
 def c_program(source, headers=HEADERS):
-    """Builds a C file with the header and the library; the words that run it. It is linked statically, so that the emulator needs no loader."""
+    """Builds a C file with the header and the library; the words that run it."""
     os.makedirs(WORK, exist_ok=True)
     program = os.path.join(WORK, os.path.basename(source)[:-len('.c')])
     told(c_compiler(), '-std=c11', '-O2', '-Wall', '-Wextra', '-Werror', '-I', headers, '-static', '-o', program,
          os.path.join(ROOT, source), library())
-    return emulator() + [program]
+    return [program]
 
 
 # the reference: the second implementation of the paper, in tests/reference

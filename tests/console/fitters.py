@@ -8,6 +8,7 @@ import tempfile
 
 import kit
 import words
+import wrong
 from both import CLOSED, ignore, one_line, quiet, same
 from talk import answer, ended, start, whole
 
@@ -135,4 +136,4 @@ TESTS = [
     ('rate: closed output, words pending, SIGPIPE ignored', closed_output(True)),
     ('rate: output to a full device', full_device),
 ]
-TESTS.append(('rate: wrong mains, which are proved, are caught', words.caught(dict(TESTS))))
+TESTS.append(('rate: wrong mains, which are proved, are caught', wrong.caught(words.MAIN, dict(TESTS))))

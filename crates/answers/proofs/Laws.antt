@@ -1,15 +1,12 @@
--- Which answer it is, and that every answer of the paper's step fits a line.
+-- That every answer of the paper's step fits a line.
 use mathlib.Core.Bool.{Bool, true, false, ◌&&◌, ◌||◌}
 use mathlib.Core.List.{List, [], ◌∷◌}
 use mathlib.Core.Option.{Option, none, some}
-use mathlib.Core.Path.{◌≡◌, refl}
 use Prim.Native.Nat.{ℕ, ◌*◌, ◌≤◌}
 use native.Mathlib.Omega.{arith}
 use lib.Dec.{eqb, ltb}
 use lib.ListN.{length, length-append, length-take, length-map}
 use borrow.Author.Tests.{ltb-false}
-use denote.Enum.Declared.{tag_of}
-use types.Run.{OneOf, miss}
 use Rattle.paper.specs.Given.{Given}
 use Rattle.paper.specs.Settings.{Size, card_size, bad_field}
 use Rattle.paper.specs.Arrival.{NL}
@@ -19,79 +16,13 @@ use Rattle.paper.specs.Transmitter.{Transmitter, transmit_depth, TransmitCall, l
 use Rattle.paper.specs.Transmitter.{loaded, send_next, held, turned, special_taken, transmit_step}
 use Rattle.paper.specs.Channel.{Channel, ChannelCall, arrive, read, take_settings, reset, state, transmit, no_room, handed_over, settings_taken, channel_step}
 use Rattle.paper.specs.Bounds.{SoundChannel}
-use Rattle.paper.specs.Numbers.{numbers}
 use Rattle.paper.specs.Frames.{lent_bytes}
 use Rattle.paper.specs.declared.Settings.{Settings}
 use Rattle.paper.specs.declared.Flags.{Flags}
 use Rattle.paper.specs.declared.Item.{Item}
 use Rattle.paper.specs.declared.Item.TheVariants.{Plain, Doubled, Damaged}
-use Rattle.paper.specs.declared.Answer.{Answer}
-use Rattle.paper.specs.declared.Answer.TheVariants.{Refused, Fated, Handed, Took, Silent, Sent, Done, Shown, Picked, NoneReady}
-use Rattle.paper.specs.contracts.Answer as answers
 use Rattle.demands.proofs.Choices.{chosen, either}
-use Rattle.answers.specs.AnswerLine.{second_number, Small}
-
--- WHICH ANSWER IT IS. A match that comes to its last arm has told the variant, counted from 0, to be one of those that no other arm names.
-
--- 00 and one number
-abbrev Paired : List ℕ
-Paired = 1 ∷ 3 ∷ 4 ∷ 8 ∷ 9 ∷ []
-
-pub paired : (a : Answer) → OneOf Paired (tag_of answers.the_type a) → numbers a [] ≡ 0 ∷ second_number a ∷ []
-paired (Refused r) h = absurd (miss Paired 0 tt h)
-paired (Fated f) h = refl
-paired (Handed characters flagged bytes) h = absurd (miss Paired 2 tt h)
-paired (Took n) h = refl
-paired Silent h = refl
-paired (Sent b) h = absurd (miss Paired 5 tt h)
-paired Done h = absurd (miss Paired 6 tt h)
-paired (Shown waiting sending stopped losses) h = absurd (miss Paired 7 tt h)
-paired (Picked n) h = refl
-paired NoneReady h = refl
-
--- no number there, or 00
-abbrev Zero : List ℕ
-Zero = 0 ∷ 2 ∷ 4 ∷ 5 ∷ 6 ∷ 7 ∷ []
-
-pub zero : (a : Answer) → OneOf Zero (tag_of answers.the_type a) → 0 ≡ second_number a
-zero (Refused r) h = refl
-zero (Fated f) h = absurd (miss Zero 1 tt h)
-zero (Handed characters flagged bytes) h = refl
-zero (Took n) h = absurd (miss Zero 3 tt h)
-zero Silent h = refl
-zero (Sent b) h = refl
-zero Done h = refl
-zero (Shown waiting sending stopped losses) h = refl
-zero (Picked n) h = absurd (miss Zero 8 tt h)
-zero NoneReady h = absurd (miss Zero 9 tt h)
-
--- all but what a read handed over: nothing that was lent stands in the line
-abbrev Unlent : List ℕ
-Unlent = 0 ∷ 1 ∷ 3 ∷ 4 ∷ 5 ∷ 6 ∷ 7 ∷ 8 ∷ 9 ∷ []
-
-pub unlent : (a : Answer) (lent : List ℕ) → OneOf Unlent (tag_of answers.the_type a) → numbers a lent ≡ numbers a []
-unlent (Refused r) lent h = refl
-unlent (Fated f) lent h = refl
-unlent (Handed characters flagged bytes) lent h = absurd (miss Unlent 2 tt h)
-unlent (Took n) lent h = refl
-unlent Silent lent h = refl
-unlent (Sent b) lent h = refl
-unlent Done lent h = refl
-unlent (Shown waiting sending stopped losses) lent h = refl
-unlent (Picked n) lent h = refl
-unlent NoneReady lent h = refl
-
-pub unlent_small : (a : Answer) (lent : List ℕ) → OneOf Unlent (tag_of answers.the_type a) → Small a lent → Small a []
-unlent_small (Refused r) lent h s = s
-unlent_small (Fated f) lent h s = s
-unlent_small (Handed characters flagged bytes) lent h s = absurd (miss Unlent 2 tt h)
-unlent_small (Took n) lent h s = s
-unlent_small Silent lent h s = s
-unlent_small (Sent b) lent h s = s
-unlent_small Done lent h s = s
-unlent_small (Shown waiting sending stopped losses) lent h s = s
-unlent_small (Picked n) lent h s = s
-unlent_small NoneReady lent h s = s
+use Rattle.answers.specs.AnswerLine.{Small}
 
 -- EVERY ANSWER OF THE PAPER'S STEP ON A SOUND CHANNEL FITS A LINE
 

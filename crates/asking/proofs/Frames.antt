@@ -8,7 +8,7 @@ use native.Mathlib.Omega.{arith}
 use lib.Dec.{eqb, leb, ltb}
 use lib.ListN.{length, get_or, take, length-take}
 use borrow.Author.Tests.{eqb-true, leb-true, ltb-true, ltb-false, ne_eqb}
-use Rattle.paper.specs.Choice.{if◌then◌else◌}
+use Rattle.std.specs.Prelude.{if◌then◌else◌}
 use Rattle.paper.specs.Settings.{Size}
 use Rattle.paper.specs.Card.{on, pick}
 use Rattle.paper.specs.Frames.{call_of}

@@ -1,14 +1,14 @@
 -- Two boxes in a row: one law, that a setting which does as both on CR alone and on NL alone does so on every list, and one computed test of all pairs.
 use mathlib.Core.Bool.{Bool, true, false, true≢false, not, ◌&&◌, ◌||◌}
 use mathlib.Core.List.{List, [], ◌∷◌, ◌++◌, map, append-nil, map-append, Memᴰ}
-use mathlib.Core.Logic.{◌≢◌}
 use mathlib.Core.Option.{Option, none, some}
 use mathlib.Core.Path.{◌≡◌, refl, sym, ap, ◌∙◌}
-use Prim.Native.Nat.{ℕ, ◌+◌, ◌≤◌}
+use Prim.Native.Nat.{ℕ, ◌≤◌}
 use native.Mathlib.Omega.{arith}
 use lib.Dec.{eqb, ltb}
 use borrow.Author.Tests.{eqb-true, ne_eqb, not-true, ltb-false, le-ltb}
-use Rattle.paper.specs.Choice.{if◌then◌else◌, outside}
+use Rattle.std.specs.Prelude.{if◌then◌else◌}
+use Rattle.paper.specs.Choice.{outside}
 use Rattle.paper.specs.Rate.{every, first_of}
 use Rattle.paper.specs.Text.{each}
 use Rattle.paper.specs.Arrival as steps
@@ -166,7 +166,7 @@ stored_out s none = refl
 stored_out s (some b) = rw (stored_good s b)
 
 step7_stores : (s : Settings) (running : Bool) (l : List ℕ) → each (λ b. stored (step7 s running b).ruling) l ≡ map good (acts s.endings l)
-unfolding step7
+unfolding step7 steps.ending ending_of
 step7_stores s running [] = refl
 step7_stores s running (b ∷ l) =
     let out = comes (ending_of s.endings b) in
@@ -184,7 +184,7 @@ module _ (s : Settings) (p : Plainly s) (f : Flags) (unmarked : f.literal ≡ fa
   handed_out (some b) = rw (ne_eqb s.damaged 4 p.unmarked)
 
   hands_on : (l : List ℕ) → each (λ b. handed_on (arrival s f 0 b).ruling) l ≡ acts s.endings l
-  unfolding step7
+  unfolding step7 steps.ending ending_of
   hands_on [] = refl
   hands_on (b ∷ l) = rw (takes_step7 b, handed_out (ending_of s.endings b), hands_on l)
 

@@ -9,7 +9,7 @@ use lib.Dec.{leb, lit≤}
 use lib.ListN
 use lib.ListN.{length, get_or, set, length-map}
 use borrow.Author.Tests.{lt-ltb, le-ltb}
-use Rattle.paper.specs.Choice.{if◌then◌else◌}
+use Rattle.std.specs.Prelude.{if◌then◌else◌}
 use Rattle.paper.specs.Settings.{Size}
 use Rattle.paper.specs.Given.{Given, refused}
 use Rattle.paper.specs.Channel.{ChannelCall, lent, fresh}
@@ -58,8 +58,8 @@ get_or-inside [] i d e h = absurd (omega arith)
 get_or-inside (x ∷ l) zero d e h = refl
 get_or-inside (x ∷ l) (suc i) d e h = get_or-inside l i d e (omega arith)
 
-get_d_map : {A B : Type 0} (f : A → B) (l : List A) (i : ℕ) (d : A) (e : B) → i < length l → get_or (map f l) i e ≡ f (get_or l i d)
-get_d_map f l i d e h = get_or-inside (map f l) i e (f d) (rw length-map h) ∙ ListN.get_d_map f l i d
+get_or_map : {A B : Type 0} (f : A → B) (l : List A) (i : ℕ) (d : A) (e : B) → i < length l → get_or (map f l) i e ≡ f (get_or l i d)
+get_or_map f l i d e h = get_or-inside (map f l) i e (f d) (rw length-map h) ∙ ListN.get_or-map f l i d
 
 map-set : {A B : Type 0} (f : A → B) (l : List A) (i : ℕ) (a : A) → map f (set l i a) ≡ set (map f l) i (f a)
 map-set f [] i a = refl
@@ -129,13 +129,13 @@ module _ (C : Card) (s : Sound C) where
 
     pub at_channel : at (card_in C) n ≡ channel_in (get_or C.channels n d)
     unfolding card_in
-    at_channel = get_d_map channel_in C.channels n d fresh inside
+    at_channel = get_or_map channel_in C.channels n d fresh inside
 
     pub channel_sound : channel.Sound (get_or C.channels n d)
     unfolding card_in
     channel_sound =
         record {
-          is = ap (λ (l : List Channel). get_or l n d) channels_of ∙ get_d_map (channel_of (size_of C)) (map channel_in C.channels) n fresh d
+          is = ap (λ (l : List Channel). get_or l n d) channels_of ∙ get_or_map (channel_of (size_of C)) (map channel_in C.channels) n fresh d
               (rw length-map inside)
               ∙ ap (channel_of (size_of C)) at_channel;
           bounds = rw (← at_channel) (s.bounds.each n small);

@@ -17,7 +17,7 @@ pub data Called : Card → List Call → List Seen → Card → Type 0 where
 
 -- THE CODE IS THE PAPER'S CARD: of every list of calls on a fresh record the caller sees what the paper's run shows, and it leaves the record of the
 -- run's end; and every list of calls can be so made, each on a record that the call before it left sound. So whatever `demands` proves of
--- `run z freshCard`, demands 1, 2 and 3 among it, holds of what is seen of the calls.
+-- `run z fresh_card`, demands 1, 2 and 3 among it, holds of what is seen of the calls.
 pub record CardAsThePaper : Type 0 where
   pub shows : (cs : List Call) (ts : List Seen) (D : Card) → Called (card_of card_size fresh_card) cs ts D
       → ts ≡ map seen (run card_size fresh_card (nameless cs))

@@ -1,7 +1,6 @@
 -- A row of periods in two looks, all pairs row by row, and the answer.
 use mathlib.Core.Bool.{Bool, true, false}
-use mathlib.Core.List.{List, [], ◌∷◌, ◌++◌}
-use mathlib.Core.Option.{some}
+use mathlib.Core.List.{◌∷◌}
 use mathlib.Core.Path.{◌≡◌, refl, ap, sym, ◌∙◌}
 use Prim.Native.Nat.{ℕ, zero, suc, ◌+◌, ◌-◌, ◌*◌, ◌≤◌, ◌<◌}
 use native.Mathlib.Nat.{mul-le-mul_left}
@@ -11,8 +10,8 @@ use lib.Dec.{ltb}
 use Rattle.paper.specs.declared.Pair.{Pair}
 use Rattle.paper.specs.declared.Refusal.TheVariants.{OutsideRange}
 use Rattle.paper.specs.declared.Choosing.TheVariants.{Unchosen}
-use Rattle.paper.specs.Choice.{if◌then◌else◌, outside}
-use Rattle.paper.specs.Rate.{pair, row, rows, pairs, nearer, out_of_range, too_far, choose}
+use Rattle.paper.specs.Choice.{outside}
+use Rattle.paper.specs.Rate.{pair, row, rows, pairs, nearer, out_of_range, choose}
 use Rattle.rates.specs.Looks.{pick, best}
 use Rattle.rates.specs.Rates.{InRange}
 use Rattle.choosing.specs.Search.{Beside, Measured, told_of}

@@ -1,6 +1,5 @@
 -- The search: what its numbers keep to, and what is kept after each look.
-use Rattle.std.specs.Prelude.{List, ◌≡◌, ℕ, ◌+◌, ◌*◌, ◌≤◌, ◌<◌}
-use Rattle.paper.specs.Choice.{if◌then◌else◌}
+use Rattle.std.specs.Prelude.{List, ◌≡◌, ℕ, ◌+◌, ◌*◌, ◌≤◌, ◌<◌, if◌then◌else◌}
 use Rattle.paper.specs.Rate.{divider, gap, nearer, too_far, deviation}
 use Rattle.paper.specs.declared.Refusal.TheVariants.{TooFar}
 use Rattle.paper.specs.declared.Pair.{Pair}

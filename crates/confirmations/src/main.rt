@@ -12,6 +12,10 @@ ghost use Rattle.confirmations.specs.Carried.{GoesOn};
 
 use finding::Search;
 use standard::{read_piece, write_text};
+use std::io::Read;
+
+// How many bytes are read at once, and how many of the sheet are written.
+const PIECE: usize = 65536;
 
 // What is carried from piece to piece: the search, whether the last line was put, and whether the output was closed.
 #[derive(Clone, Copy)]
@@ -22,7 +26,7 @@ struct Carried {
 }
 
 // Reports a piece, and writes out what is found whenever there is no room for more, and at the end.
-fn list(before: Carried, piece: &[u8], out: &mut [u8]) -> Carried
+fn list(rt: &(impl Print + Eprint), before: Carried, piece: &[u8], out: &mut [u8]) -> Carried
     requires { GoesOn before × (longest ≤ length out.old) }
     ensures sound_search { SoundSearch result.search }
     ensures piece_reported { result.closed ≡ false → PieceReported piece.now before.search result.over result.search }
@@ -36,7 +40,7 @@ fn list(before: Carried, piece: &[u8], out: &mut [u8]) -> Carried
         search = next;
         at = reported.at;
         let put = reported.put;
-        if !write_text(&out[..put]) {
+        if !write_text(rt, &out[..put]) {
             return Carried {
                 search,
                 over: reported.over,
@@ -59,12 +63,12 @@ fn list(before: Carried, piece: &[u8], out: &mut [u8]) -> Carried
 }
 
 // The last line, at the input's end. Whether the output takes it changes nothing more: the program ends.
-fn close(carried: Carried, out: &mut [u8])
+fn close(rt: &(impl Print + Eprint), carried: Carried, out: &mut [u8])
     requires { GoesOn carried × (longest ≤ length out.old) }
 {
     let search = carried.search;
     let put = reporting::finish(search, out);
-    write_text(&out[..put]);
+    write_text(rt, &out[..put]);
 }
 
 // The next piece of the input, which stands at the front of the buffer: how long it is, 0 at the input's end, and whether the input failed instead.
@@ -74,44 +78,44 @@ struct Piece {
     failed: bool,
 }
 
-fn next_piece(piece: &mut [u8]) -> Piece
+fn next_piece<R: Read>(rt: &impl Eprint, input: &mut R, piece: &mut [u8]) -> Piece
     ensures { result.long ≤ length piece.new }
 {
-    let got = read_piece(piece);
-    if got < 0 {
+    let Some(long) = read_piece(rt, input, piece) else {
         return Piece {
             long: 0,
             failed: true,
         };
-    }
+    };
     Piece {
-        long: io::count(got, piece),
+        long,
         failed: false,
     }
 }
 
-fn main() {
+fn main(rt: HostRuntime) {
     let mut carried = Carried {
         search: finding::beginning(),
         over: false,
         closed: false,
     };
-    let mut piece = io::large_buffer();
-    let mut out = io::large_buffer();
+    let mut input = rt.reader();
+    let mut piece = [0u8; PIECE];
+    let mut out = [0u8; PIECE];
     let mut turns = u64::MAX;
     while turns > 0 {
         turns -= 1;
-        let got = next_piece(&mut piece);
+        let got = next_piece(&rt, &mut input, &mut piece);
         // of an input that failed nobody knows the sum: no last line
         if got.failed {
             return;
         }
         let n = got.long;
         if n == 0 {
-            close(carried, &mut out);
+            close(&rt, carried, &mut out);
             return;
         }
-        carried = list(carried, &piece[..n], &mut out);
+        carried = list(&rt, carried, &piece[..n], &mut out);
         // the last line was put: the rest of the input changes nothing
         if carried.over {
             return;

@@ -7,7 +7,7 @@ use native.Mathlib.Omega.{arith}
 use lib.Dec.{ltb}
 use lib.ListN.{length}
 use borrow.Author.Tests.{ltb-false}
-use Rattle.paper.specs.Choice.{if◌then◌else◌}
+use Rattle.std.specs.Prelude.{if◌then◌else◌}
 use Rattle.paper.specs.Stream.{readout}
 use Rattle.paper.specs.Confirmations.{sum, countable, LentList, places_of, listed_in, Confirmed, confirmed_as, confirm}
 use Rattle.paper.specs.declared.Refusal.TheVariants.{BrokenStream, TooManyEntries}

@@ -1,6 +1,5 @@
 -- What the two passes over a stream do.
-use Rattle.std.specs.Prelude.{◌≡◌, true, not, ◌||◌, List, [], ℕ, ◌≤◌, ltb, length}
-use Rattle.paper.specs.Choice.{if◌then◌else◌}
+use Rattle.std.specs.Prelude.{◌≡◌, true, not, ◌||◌, List, [], ℕ, ◌≤◌, ltb, length, if◌then◌else◌}
 use Rattle.paper.specs.Stream.{Character, readout}
 use Rattle.paper.specs.Confirmations.{entries, sum, countable}
 use Rattle.paper.specs.declared.Entry.{Entry}

@@ -9,7 +9,7 @@ use native.Mathlib.Numerals.{add-one}
 use lib.Dec.{ltb}
 use lib.ListN.{length, get_or, get_or-append}
 use borrow.Author.Tests.{ltb-true, ltb-false}
-use Rattle.paper.specs.Choice.{if◌then◌else◌}
+use Rattle.std.specs.Prelude.{if◌then◌else◌}
 use Rattle.paper.specs.Decimal.{digit, spelled, all_digits, last_digits, digits_of, decimal}
 use Rattle.decimal.specs.ReadBack.{DecimalReadsBack, WordReadsBack, NumberReadsBack}
 use Rattle.decimal.proofs.Digits.{length_digits}

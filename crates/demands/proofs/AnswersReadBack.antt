@@ -8,10 +8,9 @@ use native.Mathlib.Omega.{arith}
 use lib.Dec.{eqb, leb, ltb}
 use lib.ListN.{length, get_or, take, drop}
 use borrow.Author.Tests.{eqb-true, ltb-true, ltb-false, ne_eqb}
-use Rattle.paper.specs.Choice.{if◌then◌else◌}
+use Rattle.std.specs.Prelude.{if◌then◌else◌}
 use Rattle.paper.specs.Given.{Given}
 use Rattle.paper.specs.Settings.{Size, bad_field}
-use Rattle.paper.specs.Arrival
 use Rattle.paper.specs.Arrival.{NL}
 use Rattle.paper.specs.Queue.{oldest, items_of, place}
 use Rattle.paper.specs.Stream.{images}

@@ -9,7 +9,7 @@ use Prim.Native.Nat.{ℕ, ◌+◌, ◌≤◌}
 use native.Mathlib.Omega.{arith}
 use lib.Dec.{eqb}
 use borrow.Author.Tests.{eqb-false}
-use Rattle.paper.specs.Choice.{if◌then◌else◌}
+use Rattle.std.specs.Prelude.{if◌then◌else◌}
 use Rattle.paper.specs.Stream.{Character, good, damaged, byte}
 use Rattle.paper.specs.Confirmations.{confirmation_of, ahead, Run, runs, any_damaged, Finding, finding, found, findings, next, judgement_on, judgement, counted, last_after, judge, judged, entries, accepted, said}
 use Rattle.paper.specs.declared.Confirmation.{Confirmation}

@@ -10,7 +10,7 @@ use native.Mathlib.Omega.{arith}
 use lib.Dec.{eqb}
 use lib.ListN.{length}
 use borrow.Author.Tests.{eqb-true}
-use Rattle.paper.specs.Choice.{if◌then◌else◌}
+use Rattle.std.specs.Prelude.{if◌then◌else◌}
 use Rattle.paper.specs.Stream.{Character, good, damaged}
 use Rattle.paper.specs.Confirmations.{Mark, start, finish, inner, mark, ahead, body_at, body, Run, run_at, runs_from, runs}
 use Rattle.demands.specs.Confirmations.{Unmarked, nil, cons, StandsIn, Ascending, place_of, Runs}

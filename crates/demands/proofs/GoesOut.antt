@@ -1,31 +1,29 @@
 -- What goes out of a transmitter is what came in.
 use mathlib.Core.Path.{◌≡◌, refl, sym, ap, ◌∙◌}
-use mathlib.Core.Bool.{Bool, true, false, not, ◌&&◌, ◌||◌, true≢false}
-use mathlib.Core.Logic.{◌⊎◌, inl, inr}
+use mathlib.Core.Bool.{Bool, true, false, ◌&&◌, ◌||◌, true≢false}
 use mathlib.Core.List.{List, [], ◌∷◌, ◌++◌, append_assoc, append-nil}
 use mathlib.Core.Option.{Option, none, some}
-use Prim.Native.Nat.{ℕ, zero, suc, ◌+◌, ◌-◌, ◌*◌, ◌≤◌, ◌<◌, min}
+use Prim.Native.Nat.{ℕ, zero, suc, ◌-◌, ◌≤◌, ◌<◌, min}
 use native.Mathlib.Omega.{arith}
 use lib.Dec.{eqb, ltb}
 use lib.ListN.{length, take, replicate, length-set}
 use lib.Seq.{get_or-set_same, take-nil}
-use borrow.Author.Tests.{eqb-true}
-use Rattle.paper.specs.Choice.{if◌then◌else◌}
 use Rattle.paper.specs.Given.{Given, given}
 use Rattle.paper.specs.Settings.{Size, bad_field}
-use Rattle.paper.specs.Arrival.{CR, NL}
+use Rattle.paper.specs.Arrival.{NL}
 use Rattle.paper.specs.Numbers.{numbers}
-use Rattle.paper.specs.Transmitter.{Transmitter, TransmitCall, transmit_depth, load, turn, set_cts, ask_special, with_bytes, with_owed, with_cts, loaded, sends, send_next, held, turned, special_taken, transmit_step}
+use Rattle.paper.specs.Transmitter.{Transmitter, TransmitCall, transmit_depth, load, turn, set_cts, ask_special, with_cts, loaded, sends, send_next, held, turned, special_taken, transmit_step}
 use Rattle.paper.specs.Channel.{Channel, fresh, with_transmitter, ChannelCall, arrive, read, take_settings, reset, state, transmit, no_room, settings_taken, channel_step}
 use Rattle.paper.specs.Card.{Card, Call, on, step, at, with}
 use Rattle.paper.specs.Run.{Named, end}
 use Rattle.paper.specs.declared.Settings.{Settings}
 use Rattle.paper.specs.declared.Flags.{Flags}
 use Rattle.paper.specs.declared.Answer.TheVariants.{Silent, Sent, Took}
-use Rattle.demands.specs.History.{request, Entry, gathered, TransmitEntry, goes_as, nothing_moved, transmitted, called_entry, transmit_history, queue_history, NoReset, after}
+use Rattle.demands.specs.History.{request, Entry, gathered, TransmitEntry, nothing_moved, transmitted, called_entry, transmit_history, queue_history, NoReset, after}
 use Rattle.demands.specs.Demands.{AllKept, owing, waits, Gone, GoesOut}
 use Rattle.demands.proofs.Choices.{either}
 use Rattle.demands.proofs.Cases.{by_number}
+use Rattle.demands.proofs.Turns.{load_of, lightest, Unheld, free, is_held, next_first}
 use Rattle.demands.proofs.Port.{ChannelRun, finished, call, channel_run, since_reset_lem}
 
 -- ONE CALL
@@ -149,10 +147,6 @@ module _ (out : TransmitEntry → List ℕ) (kept : Transmitter → List ℕ) (c
 
 -- TURNS
 
--- what is still to go: a special, an owed NL, and at most two for each byte
-abbrev load_of : Transmitter → ℕ
-load_of t = length (waits t.special) + length (owing t.owed) + 2 * length t.bytes
-
 record Lighter (t : Transmitter) (next : Transmitter) : Type 0 where
   cts : next.cts ≡ t.cts
   less : load_of next ≤ load_of t - 1
@@ -179,16 +173,6 @@ module _ (s : Settings) (f : Flags) (cts : Bool) where
   turn_lighter bytes owed (some b) free = record { cts = refl; less = omega arith }
   turn_lighter bytes owed none free = rw free (next_lighter bytes owed)
 
--- at most one special, and one owed NL
-lightest : (t : Transmitter) (k : ℕ) → 2 + 2 * length t.bytes ≤ k → load_of t ≤ k
-lightest t k enough = go t.owed t.special
-  where
-    go : (owed : Bool) (w : Option ℕ) → load_of (record { bytes = t.bytes; owed = owed; special = w; cts = t.cts }) ≤ k
-    go true none = omega arith
-    go true (some b) = omega arith
-    go false none = omega arith
-    go false (some b) = omega arith
-
 gone : (t : Transmitter) → load_of t ≤ 0 → Gone t
 gone t light = go t.bytes t.owed t.special light
   where
@@ -201,14 +185,6 @@ gone t light = go t.bytes t.owed t.special light
     go [] true (some b) light = absurd (omega arith)
     go (b ∷ rest) owed w light = absurd (omega arith)
 
--- nothing holds the transmitter
-free : (s : Settings) (f : Flags) (t : Transmitter) → f.running ≡ true → (s.hold ≡ 1 → t.cts ≡ true) → held s f t ≡ false
-free s f t runs clear = rw runs (go (eqb s.hold 1) refl)
-  where
-    go : (u : Bool) → eqb s.hold 1 ≡ u → (u && not t.cts) ≡ false
-    go true e = rw (clear (eqb-true _ _ e))
-    go false e = refl
-
 -- a turn on a port, and a law of what it gives
 module _ {A : Type 0} (z : Size) (a : A) (K : Card A) (n : ℕ) (small : n < 4) (P : Given (Card A) → Type 0) where
   by_turn : (c : TransmitCall)
@@ -218,49 +194,25 @@ module _ {A : Type 0} (z : Size) (a : A) (K : Card A) (n : ℕ) (small : n < 4) 
   unfolding channel_step
   by_turn c p = by_number z a K P n (transmit c) (λ above. absurd (omega arith)) (λ _. p)
 
-is_held : (s : Settings) (f : Flags) (t : Transmitter) → (f.running ≡ false) ⊎ ((s.hold ≡ 1) × (t.cts ≡ false)) → held s f t ≡ true
-is_held s f t (inl stopped) = rw stopped
-is_held s f t (inr (field, low)) = rw (field, low) (go f.running)
-  where
-    go : (runs : Bool) → (not runs || true) ≡ true
-    go true = refl
-    go false = refl
-
--- the first of all that is due
-sends_first : (s : Settings) (t : Transmitter) (c : ℕ) (left : List ℕ) (b : ℕ) (rest more : List ℕ) → goes_as s c ++ more ≡ b ∷ rest
-    → (sends s t c left).answer ≡ Sent b
-sends_first s t c left b rest more e = go (eqb s.expand 1 && eqb c NL) e
-  where
-    go : (u : Bool) → (if u then CR ∷ NL ∷ [] else c ∷ []) ++ more ≡ b ∷ rest
-        → (if u then given (Sent CR) (with_owed true (with_bytes left t)) [] else given (Sent c) (with_owed false (with_bytes left t)) []).answer ≡ Sent b
-    go true e = ap Sent cc
-    go false e = ap Sent cc
-
-next_first : (s : Settings) (t : Transmitter) (owed : Bool) (queue : List ℕ) (b : ℕ) (rest : List ℕ)
-    → owing owed ++ gathered (goes_as s) queue ≡ b ∷ rest → (send_next s t owed queue).answer ≡ Sent b
-next_first s t true queue b rest e = ap Sent cc
-next_first s t false (c ∷ left) b rest e = sends_first s t c left b rest (gathered (goes_as s) left) e
-next_first s t false [] b rest e = absurd (let different : ◌≡◌ {A = ℕ} 0 1 = cc in omega arith)
-
 module _ {A : Type 0} (z : Size) (a : A) (n : ℕ) (small : n < 4) where
   abbrev turns : ℕ → List (Named A Call)
   turns k = replicate k (record { name = a; call = on n (transmit turn) })
 
   all_goes : (k : ℕ) (K : Card A) → length K.channels ≡ 4
       → let h = at K n in
-      h.flags.running ≡ true → (h.settings.hold ≡ 1 → h.transmitter.cts ≡ true) → load_of h.transmitter ≤ k
+      Unheld h.settings h.flags h.transmitter → load_of h.transmitter ≤ k
       → Gone (at (end z K (turns k)) n).transmitter
   unfolding transmit_step
-  all_goes zero K four runs clear enough = gone (at K n).transmitter enough
-  all_goes (suc k) K four runs clear enough =
+  all_goes zero K four unheld enough = gone (at K n).transmitter enough
+  all_goes (suc k) K four unheld enough =
       let h = at K n in
       let t = h.transmitter in
-      let lighter = turn_lighter h.settings h.flags t.cts t.bytes t.owed t.special (free h.settings h.flags t runs clear) in
+      let lighter = turn_lighter h.settings h.flags t.cts t.bytes t.owed t.special (free h.settings h.flags t unheld) in
       let next = with_transmitter (turned h.settings h.flags t t.special).next h in
       let same : at (with K n next) n ≡ next = get_or-set_same K.channels n next fresh (omega arith) in
       by_turn z a K n small (λ (g : Given (Card A)). Gone (at (end z g.next (turns k)) n).transmitter) turn
       (all_goes k (with K n next) (length-set K.channels n next ∙ four)
-      (rw same runs) (rw same (λ on. lighter.cts ∙ clear on)) (rw same (omega (arith, lighter.less))))
+      (rw same (unheld.0, λ on. lighter.cts ∙ unheld.1 on)) (rw same (omega (arith, lighter.less))))
 
 pub goes_out : GoesOut
 unfolding transmit_step loaded
@@ -278,7 +230,7 @@ goes_out =
       goes = λ A z a K n b rest small e runs clear due.
           let h = at K n in
           by_turn z a K n small (λ (g : Given (Card A)). g.answer ≡ Sent b) turn
-          (rw (e, free h.settings h.flags h.transmitter runs clear)
+          (rw (e, free h.settings h.flags h.transmitter (runs, clear))
           (next_first h.settings h.transmitter h.transmitter.owed h.transmitter.bytes b rest due));
-      all_goes = λ A z a K n k small sound runs clear enough. all_goes z a n small k K sound.four runs clear (lightest (at K n).transmitter k enough);
+      all_goes = λ A z a K n k small sound runs clear enough. all_goes z a n small k K sound.four (runs, clear) (lightest (at K n).transmitter k enough);
     }

@@ -7,7 +7,7 @@ use native.Mathlib.Omega.{arith}
 use lib.Dec.{ltb}
 use lib.ListN.{length, set, get_or, length-set}
 use lib.Seq.{get_or-set_other}
-use Rattle.paper.specs.Choice.{if◌then◌else◌}
+use Rattle.std.specs.Prelude.{if◌then◌else◌}
 use Rattle.paper.specs.Given.{Given, refused}
 use Rattle.paper.specs.Settings.{Size}
 use Rattle.paper.specs.Channel.{Channel, fresh, ChannelCall, lent, channel_step}

@@ -16,6 +16,7 @@ pub mod QueueRuns
 pub mod Port
 pub mod AnswersReadBack
 pub mod Fifo
+pub mod Turns
 pub mod GoesOut
 pub mod ReadBack
 pub mod TwoQueues

@@ -72,19 +72,19 @@ module _ {A : Type 0} where
 -- what holds of a history from a fresh channel on, without a reset, holds of any since the last reset
 module _ {A : Type 0} {z : Size} {h' : Channel A} (P : List (Entry A) → Type 0)
     (law : (es : List (Entry A)) → ChannelRun z fresh es h' → NoReset (queue_history es) → P es) where
-  behind_reset_lem : {h : Channel A} {es : List (Entry A)} (kept : List (Entry A)) → ChannelRun z h es h' → (NoReset (queue_history es) → P kept)
-      → P (behind_reset kept es)
-  behind_reset_lem kept finished p = p tt
-  behind_reset_lem kept (call _ (refusal _ _ e) run) p = rw e (behind_reset_lem kept run (λ s. p (e, s)))
-  behind_reset_lem kept (call _ (arrival _ _ _) run) p = behind_reset_lem kept run (λ s. p (refl, s))
-  behind_reset_lem kept (call _ (reading _ _ _ _) run) p = behind_reset_lem kept run (λ s. p (refl, s))
-  behind_reset_lem kept (call _ (change _ _) run) p = behind_reset_lem kept run (λ s. p (refl, s))
-  behind_reset_lem kept (call {es = es} _ renewal run) p = behind_reset_lem es run (law es run)
-  behind_reset_lem kept (call _ showing run) p = behind_reset_lem kept run (λ s. p (refl, s))
-  behind_reset_lem kept (call _ (sending _) run) p = behind_reset_lem kept run (λ s. p (refl, s))
-
   pub since_reset_lem : {es : List (Entry A)} → ChannelRun z fresh es h' → P (since_reset es)
-  since_reset_lem {es} run = behind_reset_lem es run (law es run)
+  since_reset_lem {es} run = go es run (law es run)
+    where
+      go : {h : Channel A} {es : List (Entry A)} (kept : List (Entry A)) → ChannelRun z h es h' → (NoReset (queue_history es) → P kept)
+          → P (behind_reset kept es)
+      go kept finished p = p tt
+      go kept (call _ (refusal _ _ e) run) p = rw e (go kept run (λ s. p (e, s)))
+      go kept (call _ (arrival _ _ _) run) p = go kept run (λ s. p (refl, s))
+      go kept (call _ (reading _ _ _ _) run) p = go kept run (λ s. p (refl, s))
+      go kept (call _ (change _ _) run) p = go kept run (λ s. p (refl, s))
+      go kept (call {es = es} _ renewal run) p = go es run (law es run)
+      go kept (call _ showing run) p = go kept run (λ s. p (refl, s))
+      go kept (call _ (sending _) run) p = go kept run (λ s. p (refl, s))
 
 -- WHAT A CALL IS TO THE QUEUE
 

@@ -7,7 +7,7 @@ use Prim.Native.Nat.{ℕ, suc, ◌+◌, ◌<◌}
 use native.Mathlib.Omega.{arith}
 use native.Mathlib.Nat.{le_refl, add-zero}
 use lib.Dec.{eqb}
-use Rattle.paper.specs.Choice.{if◌then◌else◌}
+use Rattle.std.specs.Prelude.{if◌then◌else◌}
 use Rattle.paper.specs.Settings.{Size, settings_of, fresh_settings}
 use Rattle.paper.specs.Arrival
 use Rattle.paper.specs.Transmitter.{loaded}

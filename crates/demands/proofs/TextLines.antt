@@ -3,7 +3,7 @@ use mathlib.Core.Path.{◌≡◌, refl, sym, ap}
 use mathlib.Core.Bool.{false}
 use mathlib.Core.Logic.{◌≢◌}
 use mathlib.Core.List.{List, [], ◌∷◌, ◌++◌, nil≢cons}
-use Prim.Native.Nat.{ℕ, suc, ◌<◌}
+use Prim.Native.Nat.{ℕ, suc}
 use native.Mathlib.Omega.{arith}
 use lib.Dec.{eqb}
 use borrow.Author.Tests.{ne_eqb}
@@ -21,10 +21,10 @@ ended : (line rest : List ℕ) → Without newline line → lines (line ++ newli
 ended [] rest w = refl
 ended (b ∷ line) rest w = rw (first b line w) (ap (grown b) (ended line rest (behind b line w)))
 
-unended : (line : List ℕ) → Without newline line → line ≢ [] → lines line ≡ line ∷ []
-unended [] w some = absurd (some refl)
-unended (b ∷ []) w some = rw (first b [] w)
-unended (b ∷ c ∷ line) w some = rw (first b (c ∷ line) w) (ap (grown b) (unended (c ∷ line) (behind b (c ∷ line) w) (λ e. absurd (nil≢cons (sym e)))))
-
 pub text_lines : TextLines
 text_lines = record { empty = refl; ended = ended; unended = unended }
+  where
+    unended : (line : List ℕ) → Without newline line → line ≢ [] → lines line ≡ line ∷ []
+    unended [] w some = absurd (some refl)
+    unended (b ∷ []) w some = rw (first b [] w)
+    unended (b ∷ c ∷ line) w some = rw (first b (c ∷ line) w) (ap (grown b) (unended (c ∷ line) (behind b (c ∷ line) w) (λ e. absurd (nil≢cons (sym e)))))

@@ -1,7 +1,6 @@
 -- The words of the demands, read off a run: what one port was asked and answered, and what that was to its receive queue and to its transmitter.
-use Rattle.std.specs.Prelude.{◌≡◌, Bool, true, false, ◌&&◌, ◌≢◌, List, [], ◌∷◌, ◌++◌, map, ℕ, ◌+◌, eqb, ltb, length, get_or, take, drop}
+use Rattle.std.specs.Prelude.{◌≡◌, Bool, true, false, ◌&&◌, ◌≢◌, List, [], ◌∷◌, ◌++◌, map, ℕ, ◌+◌, eqb, ltb, length, get_or, take, drop, if◌then◌else◌}
 use Rattle.std.proofs.Math.Option.{Option, none, some}
-use Rattle.paper.specs.Choice.{if◌then◌else◌}
 use Rattle.paper.specs.Given.{Given}
 use Rattle.paper.specs.Arrival.{arrival, marking, CR, NL}
 use Rattle.paper.specs.Queue.{Slot, oldest, names_of}

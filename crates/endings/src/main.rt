@@ -7,15 +7,14 @@
 ghost use Rattle.std.specs.Prelude.{◌≤◌, length};
 ghost use Rattle.tabling.specs.Lines.{longest_pair, longest_table};
 
-use standard::write_text;
+use standard::{read_word, word_count, write_text};
 
 // The longest word that Linux hands to a program on x86-64 has 131071 bytes.
 const WORD: usize = 131072;
 
-fn say_usage() {
-    io::write_all(
-        libc::STDERR_FILENO,
-        b"usage: endings [FIRST SECOND]\n\
+fn say_usage(rt: &impl Eprint) {
+    let _ = rt.eprint(
+        "usage: endings [FIRST SECOND]\n\
         FIRST and SECOND are the line-ending settings of two boxes in a row, 0 to 7; what is shown is the single setting that\n\
         does the work of both, or none; or refused 5 4: FIRST or SECOND is no such setting.\n\
         Without words the table of all pairs is shown: a line for each FIRST, a column for each SECOND, - for none.\n",
@@ -23,43 +22,39 @@ fn say_usage() {
 }
 
 // The table. Whether the output takes it changes nothing more: the program ends.
-fn write_table(out: &mut [u8])
+fn write_table(rt: &(impl Print + Eprint), out: &mut [u8])
     requires { longest_table ≤ length out.old }
 {
     let put = tabling::put_table(out, 0);
-    write_text(&out[..put]);
+    write_text(rt, &out[..put]);
 }
 
 // The line of a pair of words, in the same way.
-fn write_pair(first: &[u8], second: &[u8], out: &mut [u8])
+fn write_pair(rt: &(impl Print + Eprint), first: &[u8], second: &[u8], out: &mut [u8])
     requires { longest_pair ≤ length out.old }
 {
     let put = tabling::put_pair(out, 0, first, second);
-    write_text(&out[..put]);
+    write_text(rt, &out[..put]);
 }
 
-fn main() {
+fn main(rt: HostRuntime) {
     let mut out = [0u8; tabling::LONGEST_TABLE];
-    let count = os::arg_count();
+    let count = word_count(&rt);
     if count < 2 {
-        write_table(&mut out);
+        write_table(&rt, &mut out);
         return;
     }
     if count != 3 {
-        say_usage();
+        say_usage(&rt);
         return;
     }
     let mut first = [0u8; WORD];
-    let first_long = os::arg(1, &mut first);
-    if os::errno() != 0 {
-        os::fail(b"FIRST");
+    let Some(first_long) = read_word(&rt, "FIRST", 1, &mut first) else {
         return;
-    }
+    };
     let mut second = [0u8; WORD];
-    let second_long = os::arg(2, &mut second);
-    if os::errno() != 0 {
-        os::fail(b"SECOND");
+    let Some(second_long) = read_word(&rt, "SECOND", 2, &mut second) else {
         return;
-    }
-    write_pair(&first[..first_long], &second[..second_long], &mut out);
+    };
+    write_pair(&rt, &first[..first_long], &second[..second_long], &mut out);
 }

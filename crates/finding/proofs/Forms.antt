@@ -1,4 +1,5 @@
 -- The form that the finder follows byte by byte is that of all the bytes.
+use Rattle.std.specs.Prelude.{if◌then◌else◌}
 use mathlib.Core.Path.{◌≡◌, refl, sym, ◌∙◌}
 use mathlib.Core.Bool.{Bool, true, false, ◌&&◌, ◌||◌, or_assoc, or-false}
 use mathlib.Core.List.{List, [], ◌∷◌, map}
@@ -9,7 +10,6 @@ use lib.Dec.{leb, ltb}
 use lib.ListN.{length, take, drop}
 use lib.Seq.{take-nil, drop-nil}
 use borrow.Author.Tests.{ltb-true, ltb-false, lt-leb}
-use Rattle.paper.specs.Choice.{if◌then◌else◌}
 use Rattle.paper.specs.Stream.{Character, byte}
 use Rattle.paper.specs.Decimal.{spelled}
 use Rattle.paper.specs.Confirmations.{fits, all_fit, right_length, confirmation_of, any_damaged, found}

@@ -8,7 +8,7 @@ use native.Mathlib.Omega.{arith}
 use lib.Dec.{eqb}
 use lib.ListN.{length, length-append}
 use borrow.Author.Tests.{eq-eqb, ne_eqb}
-use Rattle.paper.specs.Choice.{if◌then◌else◌}
+use Rattle.std.specs.Prelude.{if◌then◌else◌}
 use Rattle.paper.specs.Stream.{Character, good, damaged, Readout, Open, nothing, mark, mark_zero, first, stop, read_on, readout}
 use Rattle.paper.specs.Confirmations.{Mark, start, finish, inner, Finding, entries, sum, countable, accepted, litres}
 use Rattle.paper.specs.Confirmations as runs

@@ -6,7 +6,7 @@ use Prim.Native.Nat.{ℕ, ◌+◌, ◌≤◌}
 use native.Mathlib.Omega.{arith}
 use lib.Dec.{eqb, leb}
 use borrow.Author.Tests.{ne_eqb, leb-true}
-use Rattle.paper.specs.Choice.{if◌then◌else◌}
+use Rattle.std.specs.Prelude.{if◌then◌else◌}
 use Rattle.paper.specs.Stream.{Character, good, damaged}
 use Rattle.paper.specs.Confirmations.{Mark, start, finish, inner, mark, Finding, furthest}
 use Rattle.finding.specs.Finder.{closing, close, step_at, step, counts, full, advance}

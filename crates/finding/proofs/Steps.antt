@@ -1,4 +1,5 @@
 -- One law for each way through the finder's code.
+use Rattle.std.specs.Prelude.{if◌then◌else◌}
 use mathlib.Core.Path.{◌≡◌, refl}
 use mathlib.Core.Bool.{Bool, true, false}
 use mathlib.Core.Option.{none, some}
@@ -6,7 +7,6 @@ use Prim.Native.Nat.{ℕ, zero, suc, ◌+◌, ◌*◌, ◌-◌, ◌≤◌, ◌<�
 use native.Mathlib.Omega.{arith}
 use lib.Dec.{eqb, ltb}
 use borrow.Author.Tests.{ne_eqb, lt-ltb, le-ltb, le-leb, lt-leb}
-use Rattle.paper.specs.Choice.{if◌then◌else◌}
 use Rattle.paper.specs.Stream.{Character}
 use Rattle.paper.specs.Decimal.{digit}
 use Rattle.paper.specs.Confirmations.{mark, fits, next, judgement_on, counted, litres_of, furthest}

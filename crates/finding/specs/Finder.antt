@@ -1,8 +1,7 @@
 -- THE FINDER: one character a step, in constant memory. `step` is over numbers of any size; `advance`, which the code promises, ends where they no
 -- longer can be counted. What `step` tells of characters are their entries (Finds).
-use Rattle.std.specs.Prelude.{Bool, false, ◌&&◌, ◌||◌, ◌≡◌, List, [], ◌∷◌, ◌++◌, ℕ, ◌+◌, ◌*◌, ◌-◌, leb, ltb}
+use Rattle.std.specs.Prelude.{Bool, false, ◌&&◌, ◌||◌, ◌≡◌, List, [], ◌∷◌, ◌++◌, ℕ, ◌+◌, ◌*◌, ◌-◌, leb, ltb, if◌then◌else◌}
 use Rattle.std.proofs.Math.Option.{Option, none, some}
-use Rattle.paper.specs.Choice.{if◌then◌else◌}
 use Rattle.paper.specs.Stream.{Character, byte}
 use Rattle.paper.specs.Confirmations.{Mark, start, finish, inner, mark, fits, right_length, is_damaged, Finding, finding, counted, litres_of, last_after, judge, furthest, entries, sum}
 use Rattle.paper.specs.declared.Confirmation.{Confirmation}

@@ -1,6 +1,5 @@
 -- THE SEARCH through a marked stream, byte by byte: the reader of 01 and the finder behind it.
-use Rattle.std.specs.Prelude.{◌≡◌, Bool, true, false, List, [], ◌∷◌, ℕ, ◌+◌, ◌-◌, eqb, length}
-use Rattle.paper.specs.Choice.{if◌then◌else◌}
+use Rattle.std.specs.Prelude.{◌≡◌, Bool, true, false, List, [], ◌∷◌, ℕ, ◌+◌, ◌-◌, eqb, length, if◌then◌else◌}
 use Rattle.paper.specs.Stream.{Character, good, damaged, readout}
 use Rattle.paper.specs.Confirmations.{entries, sum, countable}
 use Rattle.paper.specs.Yield.{counted_front}

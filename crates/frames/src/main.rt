@@ -1,6 +1,6 @@
 // Program: the frame program. A frame of hexadecimal a line in, an answer a line out.
 #![tactic(auto)]
 
-fn main() {
-    shell::start();
+fn main(rt: HostRuntime) {
+    shell::start(&rt);
 }

@@ -1,6 +1,6 @@
 // Test case: the frame program on a longer trace. `tests/longer` says what it meets, and where its answers come from.
 #![tactic(auto)]
 
-fn main() {
-    shell::start();
+fn main(rt: HostRuntime) {
+    shell::start(&rt);
 }

@@ -11,7 +11,7 @@ use lib.Bits.{bit_or, or_add_and, and_le_l, and_le_r}
 use lib.Dec.{leb, ltb}
 use lib.ListN.{length, get_or, take, set}
 use borrow.Author.Tests.{le-leb, lt-leb, leb-true, ltb-true, ltb-false}
-use Rattle.paper.specs.Choice.{if◌then◌else◌}
+use Rattle.std.specs.Prelude.{if◌then◌else◌}
 use Rattle.paper.specs.Frames.{between, digit, joined, bytes_of, capital, hexadecimal, newline}
 use Rattle.hexadecimal.specs.LineSoFar.{value_or_16, from, digit_table}
 

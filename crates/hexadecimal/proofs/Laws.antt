@@ -12,7 +12,7 @@ use lib.Dec.{eqb, leb, ltb}
 use lib.ListN.{length, get_or, take, set, length-append, length-take, length-set}
 use lib.Seq.{take_all, take-suc, append_snoc, take-suc-set, take-set-le}
 use borrow.Author.Tests.{ne_eqb, lt-ltb, le-ltb, le-leb, lt-leb}
-use Rattle.paper.specs.Choice.{if◌then◌else◌}
+use Rattle.std.specs.Prelude.{if◌then◌else◌}
 use Rattle.paper.specs.Text.{each}
 use Rattle.paper.specs.Settings.{Size}
 use Rattle.paper.specs.Card.{Card, Call}

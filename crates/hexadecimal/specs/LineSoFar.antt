@@ -1,7 +1,6 @@
 -- A line that is still being read, what it stands for, and what is left to be written.
-use Rattle.std.specs.Prelude.{Bool, List, [], ◌∷◌, ◌++◌, map, ◌≡◌, ℕ, zero, suc, ◌+◌, ◌/◌, ◌%◌, ◌<◌, ◌≤◌, eqb, leb, length, take, drop, get_or}
+use Rattle.std.specs.Prelude.{Bool, List, [], ◌∷◌, ◌++◌, map, ◌≡◌, ℕ, zero, suc, ◌+◌, ◌/◌, ◌%◌, ◌<◌, ◌≤◌, eqb, leb, length, take, drop, get_or, if◌then◌else◌}
 use Rattle.std.proofs.Math.Option.{Option, none, some}
-use Rattle.paper.specs.Choice.{if◌then◌else◌}
 use Rattle.paper.specs.Settings.{Size}
 use Rattle.paper.specs.Card.{Card}
 use Rattle.paper.specs.Frames.{digit, capital, hexadecimal, lines, replies}

@@ -1,6 +1,5 @@
 -- Items in two arrays: a kind for each (0 plain, 1 doubled, 2 damaged), and a byte.
-use Rattle.std.specs.Prelude.{List, [], ◌∷◌, ℕ, eqb}
-use Rattle.paper.specs.Choice.{if◌then◌else◌}
+use Rattle.std.specs.Prelude.{List, [], ◌∷◌, ℕ, eqb, if◌then◌else◌}
 use Rattle.paper.specs.Stream.{images}
 use Rattle.paper.specs.declared.Item.{Item}
 use Rattle.paper.specs.declared.Item.TheVariants.{Plain, Doubled, Damaged}

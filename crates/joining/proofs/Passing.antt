@@ -9,16 +9,35 @@ use native.Mathlib.Omega.{arith}
 use lib.Bits.{bit_and}
 use lib.Dec.{eqb, ltb}
 use borrow.Author.Tests.{eqb-true, ne_eqb, ltb-true, ltb-false, lt-ltb, le-ltb}
-use Rattle.paper.specs.Choice.{if◌then◌else◌, outside}
+use Rattle.std.specs.Prelude.{if◌then◌else◌}
+use Rattle.paper.specs.Choice.{outside}
 use Rattle.paper.specs.Rate.{first_of}
-use Rattle.paper.specs.Arrival.{CR, NL}
+use Rattle.paper.specs.Arrival.{CR, NL, ending}
+use Rattle.paper.specs.Settings.{settings_of}
 use Rattle.paper.specs.TwoBoxes.{ending_of, comes, acts, followed, works, single, answered, one_ending}
+use Rattle.paper.specs.declared.Settings.{Settings}
 use Rattle.paper.specs.declared.Refusal.TheVariants.{BadField}
 use Rattle.paper.specs.declared.OneEnding.{OneEnding}
 use Rattle.paper.specs.declared.OneEnding.TheVariants.{Does, NoneDoes, Unanswered}
 use Rattle.rules.specs.Table.{comes_out}
-use Rattle.rules.proofs.Rows.{by_bits, no_row}
+use Rattle.rules.proofs.Rows.{from_bits, by_bits, no_row}
 use Rattle.joining.specs.Passing.{onward, passed, Ends, dropped, as_cr, as_nl, bits_of_cr, bit_of_nl, least_for}
+
+-- A VALUE OF FIELD 4, as the settings of a channel have it
+
+abbrev settings_with : (value : ℕ) → Settings
+settings_with value = settings_of (0 ∷ 0 ∷ 0 ∷ value ∷ [])
+
+-- a value of the eight: by its bits
+pub value_by_bits : (value b : ℕ) → (eqb b CR || eqb b NL) ≡ true → value ≤ 7
+    → ending_of value b ≡ (if eqb b CR then (from_bits value).cr else (from_bits value).nl)
+unfolding ending ending_of
+value_by_bits value b one h = by_bits (settings_with value) b one h
+
+-- a value above 7 has no row: nothing comes out
+pub value_no_row : (value b : ℕ) → (eqb b CR || eqb b NL) ≡ true → 7 < value → ending_of value b ≡ none
+unfolding ending ending_of
+value_no_row value b one h = no_row (settings_with value) b one h
 
 -- WHAT COMES OUT OF A ROW
 
@@ -40,9 +59,9 @@ row_out : (value b : ℕ) → (eqb b CR || eqb b NL) ≡ true → Out (ending_of
 row_out value b one = go (ltb 7 value) refl
   where
     go : (t : Bool) → ltb 7 value ≡ t → Out (ending_of value b)
-    go true e = rw (no_row value b one (ltb-true 7 value e)) nothing
+    go true e = rw (value_no_row value b one (ltb-true 7 value e)) nothing
     go false e =
-        rw (by_bits value b one (ltb-false 7 value e))
+        rw (value_by_bits value b one (ltb-false 7 value e))
         (by_its_bits (eqb b CR) (eqb (bit_and value 4) 0) (eqb (bit_and value 2) 0) (eqb (bit_and value 1) 0))
 
 none_out : (out : ℕ) → comes_out out ≡ none → out ≡ 0
@@ -102,34 +121,6 @@ unfolding least_for first_of ending_of
 none_with dropped = refl
 none_with as_cr = refl
 none_with as_nl = refl
-
--- each bit, by what comes out
-pub dropped_bit : (cr : ℕ) → cr ≡ 0 → 4 ≡ bits_of_cr cr
-dropped_bit cr e = rw e
-
-pub turned_bit : (cr : ℕ) → cr ≢ 0 → cr ≡ NL → 2 ≡ bits_of_cr cr
-turned_bit cr there e = rw e
-
-pub no_bits : (cr : ℕ) → cr ≢ 0 → cr ≢ NL → 0 ≡ bits_of_cr cr
-no_bits cr there e = rw (ne_eqb cr 0 there, ne_eqb cr NL e)
-
-pub last_bit : (nl : ℕ) → nl ≡ CR → 1 ≡ bit_of_nl nl
-last_bit nl e = rw e
-
-pub no_last_bit : (nl : ℕ) → nl ≢ CR → 0 ≡ bit_of_nl nl
-no_last_bit nl e = rw (ne_eqb nl CR e)
-
--- five is the most
-pub small : (cr nl : ℕ) → bits_of_cr cr + bit_of_nl nl < 6
-small cr nl = go (eqb cr 0) (eqb cr NL) (eqb nl CR)
-  where
-    go : (d t n : Bool) → (if d then 4 else if t then 2 else 0) + (if n then 1 else 0) < 6
-    go true t true = omega arith
-    go true t false = omega arith
-    go false true true = omega arith
-    go false true false = omega arith
-    go false false true = omega arith
-    go false false false = omega arith
 
 pub does_with : {cr nl : ℕ} → Ends cr → Ends nl → nl ≢ 0 → Does (bits_of_cr cr + bit_of_nl nl) ≡ answered (least_for (comes_out cr) (comes_out nl))
 unfolding least_for first_of ending_of

@@ -1,7 +1,6 @@
 -- What two boxes let out of CR and of NL, and the setting with such a row.
-use Rattle.std.specs.Prelude.{◌&&◌, [], ◌∷◌, ℕ, eqb}
+use Rattle.std.specs.Prelude.{◌&&◌, [], ◌∷◌, ℕ, eqb, if◌then◌else◌}
 use Rattle.std.proofs.Math.Option.{Option, none, some}
-use Rattle.paper.specs.Choice.{if◌then◌else◌}
 use Rattle.paper.specs.Rate.{first_of}
 use Rattle.paper.specs.Arrival.{CR, NL}
 use Rattle.paper.specs.TwoBoxes.{ending_of, comes, acts, same, eight}

@@ -102,6 +102,7 @@ fn refused() -> OneEnding
 }
 
 // "For every ordered pair", and any two numbers: the least setting that does the work of both, or none; a value above 7 is refused as settings are.
+#[tactic(auto, using(crate::proofs::Passing::first_above, crate::proofs::Passing::second_above))]
 pub fn one_ending(first: u32, second: u32) -> OneEnding
     ensures { result ≡ one_ending first second }
 {

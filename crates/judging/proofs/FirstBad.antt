@@ -4,7 +4,7 @@ use mathlib.Core.List.{List, [], ◌∷◌}
 use mathlib.Core.Option.{some}
 use mathlib.Core.Path.{◌≡◌, refl}
 use Prim.Native.Nat.{ℕ}
-use Rattle.paper.specs.Choice.{if◌then◌else◌}
+use Rattle.std.specs.Prelude.{if◌then◌else◌}
 use Rattle.paper.specs.Settings.{Test, settings_of, first_bad}
 use Rattle.judging.specs.declared.Judged.TheVariants.{Fit, Bad}
 use Rattle.judging.specs.Judged.{judged_as, after_test, after_tests}

@@ -1,7 +1,6 @@
 -- 02 n: "Confirmations", "over the reader, for the filling line alone".
-use Rattle.std.specs.Prelude.{Bool, true, false, not, ◌&&◌, ◌||◌, List, [], ◌∷◌, map, ℕ, ◌+◌, ◌*◌, ◌-◌, ◌%◌, min, eqb, leb, ltb, length, take, drop}
+use Rattle.std.specs.Prelude.{Bool, true, false, not, ◌&&◌, ◌||◌, List, [], ◌∷◌, map, ℕ, ◌+◌, ◌*◌, ◌-◌, ◌%◌, min, eqb, leb, ltb, length, take, drop, if◌then◌else◌}
 use Rattle.std.proofs.Math.Option.{Option, none, some}
-use Rattle.paper.specs.Choice.{if◌then◌else◌}
 use Rattle.paper.specs.Decimal.{digit, spelled}
 use Rattle.paper.specs.Stream.{Character, good, damaged, byte, readout, front}
 use Rattle.paper.specs.declared.Refusal.TheVariants.{BrokenStream, TooManyEntries}

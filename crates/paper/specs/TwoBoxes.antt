@@ -1,7 +1,7 @@
 -- 02 h: "Two boxes in a row." What it demands of these definitions stands in crates/boxes.
-use Rattle.std.specs.Prelude.{Bool, true, false, ◌&&◌, ◌||◌, List, [], ◌∷◌, ℕ, eqb, get_or}
+use Rattle.std.specs.Prelude.{Bool, true, false, ◌&&◌, ◌||◌, List, [], ◌∷◌, ℕ, eqb, get_or, if◌then◌else◌}
 use Rattle.std.proofs.Math.Option.{Option, none, some}
-use Rattle.paper.specs.Choice.{if◌then◌else◌, outside}
+use Rattle.paper.specs.Choice.{outside}
 use Rattle.paper.specs.Rate.{first_of}
 use Rattle.paper.specs.Text.{each}
 use Rattle.paper.specs.Arrival.{CR, NL, row, rows}

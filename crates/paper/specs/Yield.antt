@@ -1,6 +1,5 @@
 -- 02 n as a text for the keeper of the yield sheet: a line for each entry, and a last line with the sum.
-use Rattle.std.specs.Prelude.{List, [], ◌∷◌, ◌++◌, ℕ, ◌-◌, eqb, length}
-use Rattle.paper.specs.Choice.{if◌then◌else◌}
+use Rattle.std.specs.Prelude.{List, [], ◌∷◌, ◌++◌, ℕ, ◌-◌, eqb, length, if◌then◌else◌}
 use Rattle.paper.specs.Text.{text}
 use Rattle.paper.specs.Decimal.{last_digits, decimal}
 use Rattle.paper.specs.Stream.{Character, readout}

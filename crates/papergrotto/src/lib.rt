@@ -44,7 +44,6 @@ pub extern "C" fn papergrotto_fresh() -> Channel
 
 // One arrival at the channel that is lent.
 #[unsafe(no_mangle)]
-#[tactic(auto, unfolding(crate::proofs::papergrotto_arrive::Code::routine))]
 pub extern "C" fn papergrotto_arrive(channel: &mut Channel, kind: u8, byte: u8) -> Told
     requires { Sound channel.old }
     ensures { Promise channel.old (calls.arrive kind byte) result channel.new [] }
@@ -57,7 +56,6 @@ pub extern "C" fn papergrotto_arrive(channel: &mut Channel, kind: u8, byte: u8) 
 
 // "Line turn, one character time", of the channel that is lent.
 #[unsafe(no_mangle)]
-#[tactic(auto, unfolding(crate::proofs::papergrotto_turn::Code::routine))]
 pub extern "C" fn papergrotto_turn(channel: &mut Channel) -> Told
     requires { Sound channel.old }
     ensures { Promise channel.old (calls.transmit lines.turn) result channel.new [] }
@@ -70,7 +68,6 @@ pub extern "C" fn papergrotto_turn(channel: &mut Channel) -> Told
 
 // "Read n characters", into a lent buffer "from a given place on".
 #[unsafe(no_mangle)]
-#[tactic(auto, unfolding(crate::proofs::papergrotto_read::Code::routine))]
 pub extern "C" fn papergrotto_read(
     channel: &mut Channel,
     n: usize,
@@ -89,7 +86,6 @@ pub extern "C" fn papergrotto_read(
 
 // "Load: takes the first min(length, room) bytes; answers that number."
 #[unsafe(no_mangle)]
-#[tactic(auto, unfolding(crate::proofs::papergrotto_load::Code::routine))]
 pub extern "C" fn papergrotto_load(channel: &mut Channel, bytes: &[u8]) -> Told
     requires { Sound channel.old }
     ensures { Promise channel.old (calls.transmit (lines.load bytes.now))
@@ -103,7 +99,6 @@ pub extern "C" fn papergrotto_load(channel: &mut Channel, bytes: &[u8]) -> Told
 
 // Settings, as 15 bytes.
 #[unsafe(no_mangle)]
-#[tactic(auto, unfolding(crate::proofs::papergrotto_take_settings::Code::routine))]
 pub extern "C" fn papergrotto_take_settings(channel: &mut Channel, bytes: &[u8]) -> Told
     requires { Sound channel.old }
     ensures { Promise channel.old (calls.take_settings bytes.now)
@@ -117,7 +112,6 @@ pub extern "C" fn papergrotto_take_settings(channel: &mut Channel, bytes: &[u8])
 
 // CTS, 0 or 1.
 #[unsafe(no_mangle)]
-#[tactic(auto, unfolding(crate::proofs::papergrotto_set_cts::Code::routine))]
 pub extern "C" fn papergrotto_set_cts(channel: &mut Channel, value: u8) -> Told
     requires { Sound channel.old }
     ensures { Promise channel.old (calls.transmit (lines.set_cts value)) result channel.new [] }
@@ -130,7 +124,6 @@ pub extern "C" fn papergrotto_set_cts(channel: &mut Channel, value: u8) -> Told
 
 // "Special s from 1 to 4: the present special character s waits for the next turn."
 #[unsafe(no_mangle)]
-#[tactic(auto, unfolding(crate::proofs::papergrotto_ask_special::Code::routine))]
 pub extern "C" fn papergrotto_ask_special(channel: &mut Channel, number: u8) -> Told
     requires { Sound channel.old }
     ensures { Promise channel.old (calls.transmit (lines.ask_special number)) result channel.new [] }

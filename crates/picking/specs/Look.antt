@@ -1,6 +1,5 @@
 -- The search of a pick, over four marks: which channels are ready.
-use Rattle.std.specs.Prelude.{Bool, false, List, [], ◌∷◌, ℕ, get_or}
-use Rattle.paper.specs.Choice.{if◌then◌else◌}
+use Rattle.std.specs.Prelude.{Bool, false, List, [], ◌∷◌, ℕ, get_or, if◌then◌else◌}
 
 -- the first of the places whose mark is set; 4 where none is
 unfoldable pub found : (marks : List Bool) → (places : List ℕ) → ℕ

@@ -1,8 +1,7 @@
 // "one line of hexadecimal in capitals": numbers as a line, and the line of each sort of answer.
 #![tactic(auto)]
 
-ghost use Rattle.std.specs.Prelude.{◌≡◌, [], ◌∷◌, ◌+◌, ◌*◌, ◌<◌, ◌≤◌, nat_abs, length};
-ghost use Rattle.paper.specs.Choice.{if◌then◌else◌};
+ghost use Rattle.std.specs.Prelude.{◌≡◌, [], ◌∷◌, ◌+◌, ◌*◌, ◌<◌, ◌≤◌, nat_abs, length, if◌then◌else◌};
 ghost use Rattle.paper.specs.Numbers.{fate_number, negative, numbers};
 ghost use Rattle.hexadecimal.specs.Written.{Wrote};
 ghost use Rattle.printing.specs.Printed.{refusal_number, line_of, Room, SmallRefusal, SmallRead};

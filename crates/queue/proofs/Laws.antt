@@ -8,7 +8,7 @@ use native.Mathlib.Numerals.{add-one}
 use lib.Dec.{eqb}
 use lib.ListN.{length, take, drop, set, get_or, replicate, length-append, length-map, length-drop, length-take}
 use lib.Seq.{take_at, take-append-le}
-use Rattle.paper.specs.Choice.{if◌then◌else◌}
+use Rattle.std.specs.Prelude.{if◌then◌else◌}
 use Rattle.paper.specs.Queue as model
 use Rattle.paper.specs.Queue.{flagged, flag_newest, stored, overrun, removed, oldest, items_of, overruns}
 use Rattle.paper.specs.declared.Item.{Item}

@@ -1,6 +1,5 @@
 -- The record that holds the paper's queue, and the queue that a record holds.
-use Rattle.std.specs.Prelude.{List, [], ◌∷◌, map, ◌≡◌, ℕ, suc, ◌≤◌, eqb, length, take}
-use Rattle.paper.specs.Choice.{if◌then◌else◌}
+use Rattle.std.specs.Prelude.{List, [], ◌∷◌, map, ◌≡◌, ℕ, suc, ◌≤◌, eqb, length, take, if◌then◌else◌}
 use Rattle.paper.specs.Settings.{card_size}
 use Rattle.paper.specs.Queue as model
 use Rattle.paper.specs.Stream.{images}

@@ -7,15 +7,15 @@
 ghost use Rattle.std.specs.Prelude.{◌+◌, ◌*◌, ◌≤◌, length};
 ghost use Rattle.fitting.specs.Lines.{longest, longest_line};
 
-use standard::write_text;
+use standard::{read_word, word_count, write_text};
+use std::env::Env;
 
 // The longest word that Linux hands to a program on x86-64 has 131071 bytes; the longest line has what stands behind it besides.
 const WORD: usize = 131072;
 
-fn say_usage() {
-    io::write_all(
-        libc::STDERR_FILENO,
-        b"usage: rate CLOCK [RATE...]\n\
+fn say_usage(rt: &impl Eprint) {
+    let _ = rt.eprint(
+        "usage: rate CLOCK [RATE...]\n\
         CLOCK is 1000000 to 60000000 Hz, RATE 1 to 230400; without a RATE the usual ones are shown.\n\
         Each line is RATE DIVISOR PERIOD DEVIATION, the deviation in millionths of the rate;\n\
         or RATE refused 12: CLOCK or RATE outside its range; or RATE refused 13: no pair within 25000 millionths.\n",
@@ -23,47 +23,43 @@ fn say_usage() {
 }
 
 // The lines of the usual rates. Whether the output takes them changes nothing more: the program ends.
-fn write_usual(clock: u32, out: &mut [u8])
+fn write_usual(rt: &(impl Print + Eprint), clock: u32, out: &mut [u8])
     requires { 20 * longest_line ≤ length out.old }
 {
     let put = fitting::put_usual(out, 0, clock);
-    write_text(&out[..put]);
+    write_text(rt, &out[..put]);
 }
 
 // The line of one word; whether the next one can follow.
-fn write_rate(clock: u32, i: usize, word: &mut [u8], out: &mut [u8]) -> bool
+fn write_rate(rt: &(impl Env + Print + Eprint), clock: u32, i: usize, word: &mut [u8], out: &mut [u8]) -> bool
     requires { length word.old + longest ≤ length out.old }
 {
-    let long = os::arg(i, word);
-    if os::errno() != 0 {
-        os::fail(b"RATE");
+    let Some(long) = read_word(rt, "RATE", i, word) else {
         return false;
-    }
+    };
     let put = fitting::put_rate(out, 0, clock, &word[..long]);
-    write_text(&out[..put])
+    write_text(rt, &out[..put])
 }
 
-fn main() {
-    let count = os::arg_count();
+fn main(rt: HostRuntime) {
+    let count = word_count(&rt);
     if count < 2 {
-        say_usage();
+        say_usage(&rt);
         return;
     }
     let mut word = [0u8; WORD];
     let mut out = [0u8; WORD + fitting::LONGEST];
-    let long = os::arg(1, &mut word);
-    if os::errno() != 0 {
-        os::fail(b"CLOCK");
+    let Some(long) = read_word(&rt, "CLOCK", 1, &mut word) else {
         return;
-    }
+    };
     let clock = decimal::number_of(&word[..long]);
     if count == 2 {
-        write_usual(clock, &mut out);
+        write_usual(&rt, clock, &mut out);
         return;
     }
     let mut i = 2;
     while i < count {
-        if !write_rate(clock, i, &mut word, &mut out) {
+        if !write_rate(&rt, clock, i, &mut word, &mut out) {
             return;
         }
         i += 1;

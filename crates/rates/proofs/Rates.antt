@@ -10,9 +10,10 @@ use native.Mathlib.Nat.{mul-le-mul, div-mul-le_self, lt-div-mul-add, zero-div}
 use native.Mathlib.Omega.{arith}
 use borrow.Author.Tests.{ltb-true, ltb-false, lt-ltb, le-ltb, not-true}
 use lib.Dec.{ltb}
-use lib.IntN.{ℤ, pos, negsuc, neg_ℤ, nat_abs, sub_ℕ, ◌-ℤ◌, ◌*ℤ◌}
+use lib.IntN.{ℤ, pos, negsuc, neg_ℤ, nat_abs, ◌-ℤ◌, ◌*ℤ◌}
 use lib.Signed.{quot_z}
-use Rattle.paper.specs.Choice.{if◌then◌else◌, outside}
+use Rattle.std.specs.Prelude.{if◌then◌else◌}
+use Rattle.paper.specs.Choice.{outside}
 use Rattle.paper.specs.Numbers.{negative}
 use Rattle.paper.specs.Rate.{pair, row, divisors, rows, pairs, divider, every, first_of, gap, nearer, unbeaten, choice, deviation, out_of_range, too_far, told, choose}
 use Rattle.paper.specs.declared.Refusal.TheVariants.{OutsideRange, TooFar}

@@ -1,6 +1,6 @@
 -- Request c's cases of the larger divisors, by computation over the single looks that the choice is equal to: there are 1275 of them, where the
 -- definition's own words ask for hundreds of thousands of comparisons.
-use mathlib.Core.Path.{◌≡◌, refl, ◌∙◌}
+use mathlib.Core.Path.{refl, ◌∙◌}
 use native.Mathlib.Omega.{arith}
 use Rattle.paper.specs.Rate.{row, rows, pairs, gap, nearer, deviation, out_of_range, too_far}
 use Rattle.rates.specs.Looks.{pick, best}

@@ -1,6 +1,5 @@
 -- A search by single looks, over any test of what is nearer: what is kept so far, and one look after the other.
-use Rattle.std.specs.Prelude.{Bool, List, [], ◌∷◌}
-use Rattle.paper.specs.Choice.{if◌then◌else◌}
+use Rattle.std.specs.Prelude.{Bool, List, [], ◌∷◌, if◌then◌else◌}
 
 unfoldable pub pick : {A : Type 0} → (nearer : A → A → Bool) → (kept seen : A) → A
 pick nearer kept seen = if nearer seen kept then seen else kept

@@ -6,7 +6,7 @@ use Prim.Native.Nat.{ℕ}
 use native.Mathlib.Omega.{arith}
 use lib.Dec.{eqb}
 use lib.ListN.{length, take, drop, drop_of_length-le}
-use Rattle.paper.specs.Choice.{if◌then◌else◌}
+use Rattle.std.specs.Prelude.{if◌then◌else◌}
 use Rattle.paper.specs.Stream.{Character, readout}
 use Rattle.paper.specs.Confirmations.{entries}
 use Rattle.paper.specs.Yield.{lines_of, full_line, counted_front, last_line, yield_sheet}

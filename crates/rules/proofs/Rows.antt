@@ -8,7 +8,7 @@ use native.Mathlib.Nat.{le_of_suc-le-suc, not-suc-le-zero, zero-add, add-zero, s
 use lib.Bits.{bit_and}
 use lib.Dec.{eqb}
 use lib.ListN.{get_or, get_or-eq_default}
-use Rattle.paper.specs.Choice.{if◌then◌else◌}
+use Rattle.std.specs.Prelude.{if◌then◌else◌}
 use Rattle.paper.specs.Arrival.{CR, NL, Row, row, rows, ending}
 use Rattle.paper.specs.declared.Settings.{Settings}
 

@@ -12,6 +12,10 @@ use card::Card;
 use hexadecimal::LineSoFar;
 use serving::Spot;
 use standard::{read_piece, write_text};
+use std::io::Read;
+
+// How many bytes are read at once, and how many of answers are written.
+const PIECE: usize = 65536;
 
 // What is carried from piece to piece, and whether the output is still open.
 #[derive(Clone, Copy)]
@@ -22,7 +26,7 @@ struct Carried {
 }
 
 // Serves a piece to its end, and writes out what is answered whenever there is no room for more, and at the end.
-fn answer(before: Carried, piece: &[u8], frame: &mut [u8], out: &mut [u8]) -> Carried
+fn answer(rt: &(impl Print + Eprint), before: Carried, piece: &[u8], frame: &mut [u8], out: &mut [u8]) -> Carried
     requires { Sound before.card × (Fits before.line frame.old × (longest ≤ length out.old)) }
     ensures sound { Sound result.card × Fits result.line frame.new }
     ensures piece_served { result.open ≡ true → PieceServed piece.now
@@ -44,7 +48,7 @@ fn answer(before: Carried, piece: &[u8], frame: &mut [u8], out: &mut [u8]) -> Ca
         line = ahead;
         at = spot.at;
         let put = spot.put;
-        if !write_text(&out[..put]) {
+        if !write_text(rt, &out[..put]) {
             return Carried {
                 card,
                 line,
@@ -81,21 +85,19 @@ struct Piece {
 }
 
 // The next piece; after the input's end, the newline that it may lack.
-fn next_piece(piece: &mut [u8], line: LineSoFar) -> Piece
+fn next_piece<R: Read>(rt: &impl Eprint, input: &mut R, piece: &mut [u8], line: LineSoFar) -> Piece
     requires { 1 ≤ length piece.old }
     ensures long_in_bounds { result.long ≤ length piece.new }
     ensures piece_after { result.failed ≡ false → result.last ≡ true → take result.long piece.new ≡ missing line }
     ensures le_long { result.last ≡ false → 1 ≤ result.long }
 {
-    let got = read_piece(piece);
-    if got < 0 {
+    let Some(long) = read_piece(rt, input, piece) else {
         return Piece {
             long: 0,
             last: true,
             failed: true,
         };
-    }
-    let long = io::count(got, piece);
+    };
     if long == 0 {
         let long = complete(line, piece);
         return Piece {
@@ -112,26 +114,27 @@ fn next_piece(piece: &mut [u8], line: LineSoFar) -> Piece
 }
 
 // "It reads standard input, one frame of hexadecimal a line ..., and prints one line ... for each."
-pub fn start() {
+pub fn start(rt: &(impl Input + Print + Eprint)) {
     let mut carried = Carried {
         card: Card::fresh(),
         line: LineSoFar { digits: 0, last: 0 },
         open: true,
     };
     let mut frame = [0u8; hexadecimal::MOST];
-    let mut piece = io::large_buffer();
-    let mut out = io::large_buffer();
+    let mut input = rt.reader();
+    let mut piece = [0u8; PIECE];
+    let mut out = [0u8; PIECE];
     let mut turns = u64::MAX;
     while turns > 0 {
         turns -= 1;
         let line = carried.line;
-        let got = next_piece(&mut piece, line);
+        let got = next_piece(rt, &mut input, &mut piece, line);
         // a line that may not be complete is not answered
         if got.failed {
             return;
         }
         let n = got.long;
-        carried = answer(carried, &piece[..n], &mut frame, &mut out);
+        carried = answer(rt, carried, &piece[..n], &mut frame, &mut out);
         if got.last {
             return;
         }

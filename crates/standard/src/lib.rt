@@ -1,39 +1,48 @@
-// Standard input and standard output, as the programs read and write them: a call that was interrupted is made again. No contract can say what is
-// read or written, so nothing else is done here.
+// Standard input, standard output and the words that a program was started with, as the programs read and write them: a call that was interrupted is
+// made again. No contract can say what is read or written, so nothing else is done here.
 #![tactic(auto)]
 
+ghost use Rattle.std.specs.Prelude.{◌≤◌, length, IfSome};
+
+use std::env::{Env, FillError};
+use std::io::{Error, ErrorKind, Read};
+
 // Whether a call failed only because it was interrupted. An output that was closed is no news; any other failure is said.
-fn is_interrupted(what: &[u8]) -> bool {
-    let error = os::errno();
-    if error == libc::EINTR {
-        return true;
+fn is_interrupted(rt: &impl Eprint, what: &str, error: Error) -> bool {
+    match error.kind() {
+        ErrorKind::Interrupted => true,
+        ErrorKind::BrokenPipe => false,
+        _ => {
+            // a failure that cannot be said either is left at that
+            let _ = eprintln!(rt; "{what}: {error}");
+            false
+        }
     }
-    if error != libc::EPIPE {
-        os::fail(what);
-    }
-    false
 }
 
-// One read, however often it is interrupted: how many bytes came, 0 at the input's end, or less where it failed,
+// One read, however often it is interrupted: how many bytes came, 0 at the input's end, or none where it failed,
 // which was then said.
-pub fn read_piece(piece: &mut [u8]) -> isize {
+pub fn read_piece<R: Read>(rt: &impl Eprint, input: &mut R, piece: &mut [u8]) -> Option<usize>
+    ensures { IfSome result (λ got. got ≤ length piece.new) }
+{
     let mut turns = u64::MAX;
     while turns > 0 {
         turns -= 1;
-        let got = libc::read(libc::STDIN_FILENO, piece);
-        if got >= 0 {
-            return got;
-        }
-        if !is_interrupted(b"standard input") {
-            return got;
+        match input.read(piece) {
+            Ok(got) => return Some(got),
+            Err(error) => {
+                if !is_interrupted(rt, "standard input", error) {
+                    return None;
+                }
+            }
         }
     }
-    0
+    Some(0)
 }
 
 // Writes all of a text, by as many writes as it takes. False where the output takes no more: one that was closed ends the program quietly, and any
 // other failure is said.
-pub fn write_text(text: &[u8]) -> bool {
+pub fn write_text(rt: &(impl Print + Eprint), text: &[u8]) -> bool {
     let mut done: usize = 0;
     let mut turns = u64::MAX;
     while done < text.len() {
@@ -41,14 +50,46 @@ pub fn write_text(text: &[u8]) -> bool {
             return false;
         }
         turns -= 1;
-        let took = libc::write(libc::STDOUT_FILENO, &text[done..]);
-        if took < 0 {
-            if !is_interrupted(b"standard output") {
-                return false;
+        match rt.write_some(&text[done..]) {
+            Ok(took) => done += took,
+            Err(error) => {
+                if !is_interrupted(rt, "standard output", error) {
+                    return false;
+                }
             }
-        } else {
-            done += io::count(took, &text[done..]);
         }
     }
     true
+}
+
+// How many words the program was started with, its own name among them.
+pub fn word_count(rt: &impl Env) -> usize {
+    let mut front = [0u8; 1];
+    let mut count: usize = 0;
+    while count < usize::MAX {
+        if let Err(FillError::NotPresent) = rt.arg(count, &mut front) {
+            return count;
+        }
+        count += 1;
+    }
+    count
+}
+
+// The word that stands at this place: how long it is, or none where the buffer is too short for it, which was then said.
+pub fn read_word(
+    rt: &(impl Env + Eprint),
+    what: &str,
+    place: usize,
+    word: &mut [u8],
+) -> Option<usize>
+    ensures { IfSome result (λ long. long ≤ length word.new) }
+{
+    match rt.arg(place, word) {
+        Ok(long) => Some(long),
+        Err(FillError::NotPresent) => Some(0),
+        Err(FillError::TooLong) => {
+            let _ = eprintln!(rt; "{what}: the word is too long");
+            None
+        }
+    }
 }

@@ -1,6 +1,5 @@
 -- An answer as C has it: the paper's number and values.
-use Rattle.std.specs.Prelude.{List, [], ◌∷◌, ◌++◌, ℕ, take}
-use Rattle.paper.specs.Choice.{if◌then◌else◌}
+use Rattle.std.specs.Prelude.{List, [], ◌∷◌, ◌++◌, ℕ, take, if◌then◌else◌}
 use Rattle.paper.specs.Numbers.{refusal_numbers, fate_number, reading_numbers, listing_numbers, choosing_numbers, ending_numbers}
 use Rattle.paper.specs.declared.Answer.{Answer}
 use Rattle.paper.specs.declared.Answer.TheVariants as answers

@@ -11,7 +11,7 @@ use lib.ListN.{length, take, drop, set, get_or, replicate, length-append, length
 use lib.Seq.{take-append_seam}
 use Rattle.arrays.specs.Padded.{padded}
 use Rattle.arrays.proofs.Laws.{padded_length, padded_head, padded_drop, padded_more, take_min}
-use Rattle.paper.specs.Choice.{if◌then◌else◌}
+use Rattle.std.specs.Prelude.{if◌then◌else◌}
 use Rattle.paper.specs.Given.{Given, given}
 use Rattle.paper.specs.Arrival.{CR, NL}
 use Rattle.paper.specs.Transmitter as model

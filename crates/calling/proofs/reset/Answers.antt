@@ -1,0 +1,6 @@
+use borrow.Author.Rules.{rules}
+use Rattle.calling.proofs.Answers.{fits}
+use Rattle.calling.proofs.reset.Goals as goal
+
+pub put_change-requires : goal.put_change-requires
+put_change-requires c = search (rules, fits)

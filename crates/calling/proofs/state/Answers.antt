@@ -1,0 +1,7 @@
+use native.Mathlib.Omega.{arith}
+use Rattle.calling.proofs.Answers.{fits}
+use borrow.Author.Rules.{rules}
+use Rattle.calling.proofs.state.Goals as goal
+
+pub put_state-requires : goal.put_state-requires
+put_state-requires c = (omega arith, fits _ _ _ _ c.state-answer.ensures c.requires.0)

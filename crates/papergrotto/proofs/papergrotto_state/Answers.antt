@@ -1,0 +1,6 @@
+use Rattle.std.proofs.Common.{refl}
+use Rattle.papergrotto.proofs.Laws.{kept}
+use Rattle.papergrotto.proofs.papergrotto_state.Goals as goal
+
+pub returns : goal.returns
+returns c = kept c.state.ensures c.tell.ensures refl
