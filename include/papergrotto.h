@@ -6,7 +6,7 @@
  * where it stands. Each is proved to give, for every input, the answer and the next record that the
  * paper's steps give (crates/papergrotto; docs/PROMISES.md).
  *
- * To link: 'rt staticlib papergrotto' proves the library and writes target/staticlib/libpapergrotto.a, for
+ * To link: 'rt lib', in crates/papergrotto, proves the library and writes out/libpapergrotto.a there, for
  * x86-64 and with the C library. examples/polling.c is a loop to begin with, examples/confirmations.c
  * a yield sheet, examples/rate.c what goes into the registers of a rate, examples/endings.c one box
  * in the place of two.
