@@ -1,13 +1,10 @@
 -- The words of a line.
-use mathlib.Core.Bool.{true, false, true≢false}
 use mathlib.Core.List.{List, [], ◌∷◌, ◌++◌, append_assoc, append-nil}
-use mathlib.Core.Path.{◌≡◌, refl, sym, ◌∙◌}
+use mathlib.Core.Path.{◌≡◌}
 use Prim.Native.Nat.{ℕ, zero, suc, ◌+◌, ◌^◌, ◌≤◌, ◌<◌}
 use native.Mathlib.Omega.{arith}
 use lib.IntN.{ℤ, pos, negsuc, nat_abs}
 use lib.ListN.{length}
-use lib.Signed.{lt_z}
-use borrow.Author.Tests.{ltb-true}
 use mir.Facts.{to_z-of_z}
 use mir.Syntax.{w64}
 use mir.Val.{SFits, to_z, of_z}
@@ -26,20 +23,6 @@ use Rattle.decimal.proofs.Digits.{decimal_few}
 use Rattle.fitting.specs.Lines.{longest_signed}
 
 -- A DEVIATION
-
-signed_zero : (z : ℤ) → nat_abs z ≡ 0 → signed z ≡ text "0"
-signed_zero (pos zero) e = refl
-signed_zero (pos (suc n)) e = absurd (omega arith)
-signed_zero (negsuc n) e = absurd (omega arith)
-
-signed_less : (z : ℤ) → lt_z z (pos 0) ≡ true → signed z ≡ text "-" ++ decimal (nat_abs z)
-signed_less (pos n) e = absurd (omega (arith, ltb-true n 0 e))
-signed_less (negsuc n) e = refl
-
-signed_more : (z : ℤ) → lt_z z (pos 0) ≡ false → (nat_abs z ≡ 0 → ⊥) → signed z ≡ text "+" ++ decimal (nat_abs z)
-signed_more (pos zero) e some = absurd (some refl)
-signed_more (pos (suc n)) e some = refl
-signed_more (negsuc n) e some = absurd (true≢false e)
 
 -- at most nineteen digits, since the size is at most 2 ^ 63
 size_short : (z : ℤ) → SFits w64 z → length (decimal (nat_abs z)) ≤ 19
@@ -61,17 +44,6 @@ module _ (z : ℤ) (f : SFits w64 z) {size : ℕ} (e : size ≡ nat_abs (read z)
 
   pub read_size_short : length (decimal size) ≤ 19
   read_size_short = rw same (size_short z f)
-
-  module _ {before after : List ℕ} {at end : ℕ} where
-    pub wrote_zero : size ≡ 0 → Wrote before at (text "0") after end → Wrote before at (signed z) after end
-    wrote_zero none w = rw (signed_zero z (sym same ∙ none)) w
-
-    pub wrote_less : lt_z (read z) (pos 0) ≡ true → Wrote before at (text "-" ++ decimal size) after end → Wrote before at (signed z) after end
-    wrote_less less w = rw (signed_less z (rw (to_z-of_z f) at less), ← same) w
-
-    pub wrote_more : lt_z (read z) (pos 0) ≡ false → (size ≡ 0 → ⊥) → Wrote before at (text "+" ++ decimal size) after end
-        → Wrote before at (signed z) after end
-    wrote_more less some w = rw (signed_more z (rw (to_z-of_z f) at less) (λ none. some (same ∙ none)), ← same) w
 
 pub read_signed_short : (z : ℤ) → SFits w64 z → length (signed (read z)) ≤ longest_signed
 read_signed_short z f = rw (to_z-of_z f) (signed_short z f)

@@ -1,5 +1,5 @@
 -- How long the lines for the fitters get.
-use Rattle.std.specs.Prelude.{List, ℕ, ◌+◌, ◌*◌, ◌≤◌}
+use Rattle.std.specs.Prelude.{List, ℕ, ◌+◌, ◌≤◌}
 use Rattle.hexadecimal.specs.Written.{Wrote}
 
 -- a sign and nineteen digits, since its size is at most 2 ^ 63

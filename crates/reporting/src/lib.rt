@@ -59,6 +59,7 @@ fn is_last(told: Told) -> bool
 
 // Reports a piece from a place on, until it ends, or there is no room for one line more, or the last line was put because the stream is broken or
 // can be counted no further.
+#[tactic(auto, using(crate::proofs::Loop::starts, crate::proofs::Loop::more_piece, crate::proofs::Loop::more_room, crate::proofs::Loop::stops_here))]
 pub fn report(start: Search, piece: &[u8], from: usize, out: &mut [u8], put: usize) -> Reported
     requires { SoundSearch start × ((from ≤ length piece.now) × (put ≤ length out.old)) }
     ensures { the.Reports start piece.now from out.old put result out.new }

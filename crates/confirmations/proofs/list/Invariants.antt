@@ -1,0 +1,15 @@
+use Rattle.std.proofs.Common.{◌-◌, ◌≡◌, ◌≤◌, length}
+use Rattle.sheet.specs.Lines.{longest}
+use Rattle.confirmations.proofs.Pieces.{Begun}
+use Rattle.confirmations.proofs.list.Given as goal
+
+abbrev pub invariant-loop-at : goal.invariant-loop-at
+invariant-loop-at g l =
+    record {
+      begun : Begun l.piece l.initial.search l.at l.search;
+      room : longest ≤ length l.out;
+      same : length l.out ≡ length l.initial.out;
+    }
+
+abbrev pub decreases-loop-at : goal.decreases-loop-at
+decreases-loop-at g l = length l.piece - l.at

@@ -1,0 +1,16 @@
+use Rattle.std.proofs.Common.{◌-◌, ◌≡◌, ◌≤◌, length}
+use Rattle.printing.specs.Printed.{longest}
+use Rattle.shell.proofs.Pieces.{Begun}
+use Rattle.shell.proofs.answer.Given as goal
+
+abbrev pub invariant-loop-at : goal.invariant-loop-at
+invariant-loop-at g l =
+    record {
+      begun : Begun l.piece (record { card = l.initial.card; line = l.initial.line; frame = l.initial.frame }) l.at
+      (record { card = l.card; line = l.line; frame = l.frame });
+      room : longest ≤ length l.out;
+      same : length l.out ≡ length l.initial.out;
+    }
+
+abbrev pub decreases-loop-at : goal.decreases-loop-at
+decreases-loop-at g l = length l.piece - l.at
