@@ -31,7 +31,13 @@ fn write_usual(rt: &(impl Print + Eprint), clock: u32, out: &mut [u8])
 }
 
 // The line of one word; whether the next one can follow.
-fn write_rate(rt: &(impl Env + Print + Eprint), clock: u32, i: usize, word: &mut [u8], out: &mut [u8]) -> bool
+fn write_rate(
+    rt: &(impl Env + Print + Eprint),
+    clock: u32,
+    i: usize,
+    word: &mut [u8],
+    out: &mut [u8],
+) -> bool
     requires { length word.old + longest ≤ length out.old }
 {
     let Some(long) = read_word(rt, "RATE", i, word) else {

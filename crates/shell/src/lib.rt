@@ -26,7 +26,13 @@ struct Carried {
 }
 
 // Serves a piece to its end, and writes out what is answered whenever there is no room for more, and at the end.
-fn answer(rt: &(impl Print + Eprint), before: Carried, piece: &[u8], frame: &mut [u8], out: &mut [u8]) -> Carried
+fn answer(
+    rt: &(impl Print + Eprint),
+    before: Carried,
+    piece: &[u8],
+    frame: &mut [u8],
+    out: &mut [u8],
+) -> Carried
     requires { Sound before.card × (Fits before.line frame.old × (longest ≤ length out.old)) }
     ensures sound { Sound result.card × Fits result.line frame.new }
     ensures piece_served { result.open ≡ true → PieceServed piece.now

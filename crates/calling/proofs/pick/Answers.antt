@@ -1,5 +1,4 @@
 use mathlib.Core.List.{[]}
-use borrow.Author.Rules.{rules}
 use Rattle.paper.specs.Card.{pick}
 use Rattle.card.proofs.Laws.{picks, picks_none}
 use Rattle.calling.proofs.Lines.{replies}

@@ -1,6 +1,5 @@
 use native.Mathlib.Omega.{arith}
 use Rattle.calling.proofs.Answers.{fits}
-use borrow.Author.Rules.{rules}
 use Rattle.calling.proofs.state.Goals as goal
 
 pub put_state-requires : goal.put_state-requires

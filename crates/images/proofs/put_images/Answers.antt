@@ -1,4 +1,4 @@
-use Rattle.std.proofs.Common.{arith, ◌≡◌, ◌+◌, ◌≤◌, ◌++◌, ◌∙◌, List, ap, refl, length, take, get_or, length-append}
+use Rattle.std.proofs.Common.{arith, ◌+◌, ◌≤◌, ◌++◌, ◌∙◌, ap, length, take, get_or, length-append}
 use Rattle.paper.specs.Stream.{image, images}
 use Rattle.images.specs.Code.{item_in, items_in}
 use Rattle.images.proofs.Laws.{image_short, length-written, part_written, images_more}

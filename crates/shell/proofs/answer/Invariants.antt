@@ -7,7 +7,7 @@ abbrev pub invariant-loop-at : goal.invariant-loop-at
 invariant-loop-at g l =
     record {
       begun : Begun l.piece (record { card = l.initial.card; line = l.initial.line; frame = l.initial.frame }) l.at
-      (record { card = l.card; line = l.line; frame = l.frame });
+          (record { card = l.card; line = l.line; frame = l.frame });
       room : longest ≤ length l.out;
       same : length l.out ≡ length l.initial.out;
     }

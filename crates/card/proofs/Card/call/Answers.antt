@@ -1,6 +1,5 @@
 use native.Mathlib.Omega.{arith}
 use Rattle.card.proofs.Laws.{channel_sound, refuses_asked, calls}
-use borrow.Author.Rules.{rules}
 use Rattle.card.proofs.Card.call.Goals as goal
 
 pub returns-then-channel-gt3 : goal.returns-then-channel-gt3

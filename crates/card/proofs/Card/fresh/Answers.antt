@@ -2,7 +2,6 @@ use mathlib.Core.List.{[], ◌∷◌}
 use Rattle.card.specs.declared.Card.{Card}
 use mathlib.Core.Path.{◌≡◌, refl}
 use lib.Dec.{lit≤}
-use borrow.Author.Rules.{rules}
 use Rattle.paper.specs.Settings.{card_size}
 use Rattle.paper.specs.Card.{fresh_card}
 use Rattle.card.specs.Held.{card_of}

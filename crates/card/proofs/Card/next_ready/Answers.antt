@@ -1,6 +1,5 @@
 use native.Mathlib.Omega.{arith}
 use Rattle.card.proofs.Laws.{channel_sound, place_small, looked}
-use borrow.Author.Rules.{rules}
 use Rattle.card.proofs.Card.next_ready.Goals as goal
 
 pub ready-requires : goal.ready-requires

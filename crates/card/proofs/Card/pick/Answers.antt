@@ -1,5 +1,4 @@
 use Rattle.card.proofs.Laws.{picks, picks_none}
-use borrow.Author.Rules.{rules}
 use Rattle.card.proofs.Card.pick.Goals as goal
 
 pub returns-then-n-lt4 : goal.returns-then-n-lt4

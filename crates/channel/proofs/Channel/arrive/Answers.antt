@@ -1,6 +1,5 @@
 use native.Mathlib.Omega.{arith}
 use lib.Dec.{lit≤}
-use borrow.Author.Rules.{rules}
 use Rattle.paper.specs.Channel.{arrive}
 use Rattle.paper.specs.declared.Refusal.TheVariants.{BadKind}
 use Rattle.channel.proofs.Laws.{queue_sound, refuses, bad_kind, arrives}

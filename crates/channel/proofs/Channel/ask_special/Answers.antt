@@ -1,4 +1,3 @@
-use borrow.Author.Rules.{rules}
 use Rattle.paper.specs.Transmitter.{ask_special, transmit_step}
 use Rattle.transmitter.specs.Held.{asks_special}
 use Rattle.channel.proofs.Laws.{transmitter_sound, sends}

@@ -1,6 +1,5 @@
 use mathlib.Core.Path.{◌≡◌, refl}
 use lib.Dec.{lit≤}
-use borrow.Author.Rules.{rules}
 use Rattle.paper.specs.Settings.{card_size}
 use Rattle.paper.specs.Channel.{fresh, fresh_flags}
 use Rattle.channel.specs.Held.{channel_of}

@@ -1,4 +1,3 @@
-use borrow.Author.Rules.{rules}
 use Rattle.paper.specs.Transmitter.{load, transmit_step}
 use Rattle.transmitter.specs.Held.{loads}
 use Rattle.channel.proofs.Laws.{transmitter_sound, sends}

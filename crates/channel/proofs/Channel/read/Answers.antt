@@ -1,5 +1,4 @@
 use native.Mathlib.Omega.{arith}
-use borrow.Author.Rules.{rules}
 use Rattle.paper.specs.Channel.{read}
 use Rattle.paper.specs.declared.Refusal.TheVariants.{TooMany, NoRoom}
 use Rattle.channel.proofs.Laws.{queue_sound, refuses, too_many, place_beyond, no_room_lem, room, hands}

@@ -1,6 +1,5 @@
 use mathlib.Core.Path.{ap}
 use lib.Dec.{leb}
-use borrow.Author.Rules.{rules}
 use Rattle.queue.proofs.Laws.{count_is}
 use Rattle.channel.specs.Held.{channel_in}
 use Rattle.channel.specs.Promise.{at_threshold}

@@ -1,4 +1,3 @@
-use borrow.Author.Rules.{rules}
 use Rattle.paper.specs.Transmitter.{set_cts, transmit_step}
 use Rattle.transmitter.specs.Held.{sets_cts}
 use Rattle.channel.proofs.Laws.{transmitter_sound, sends}

@@ -1,4 +1,3 @@
-use borrow.Author.Rules.{rules}
 use Rattle.channel.proofs.Laws.{shows}
 use Rattle.channel.proofs.Channel.state.Goals as goal
 

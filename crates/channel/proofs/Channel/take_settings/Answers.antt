@@ -1,6 +1,4 @@
-use mathlib.Core.Path.{sym, ◌∙◌}
-use borrow.Author.Rules.{rules}
-use Rattle.channel.specs.Promise.{given}
+use mathlib.Core.Path.{sym}
 use Rattle.channel.proofs.Laws.{takes, refuses_settings}
 use Rattle.channel.proofs.Channel.take_settings.Goals as goal
 
