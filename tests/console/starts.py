@@ -3,8 +3,13 @@ from wrong import Start, Wrong
 
 CALL = '= answer(rt, carried, &piece[..n], &mut frame, &mut out);'
 
+# where it begins otherwise, there is something else to prove
+BEGINS = [('Answers.antt', 'use Rattle.std.proofs.Common.{refl}', 'use Rattle.std.proofs.Common.{refl, arith}'),
+          ('Answers.antt', 'fits = fresh_fits;',
+           'fits = record { digits = omega arith; last = omega arith; room = fresh_fits.room; bytes = fresh_fits.bytes };')]
+
 WRONG = [
-    Wrong('the first line does not begin empty', 'digits: 0, last: 0', 'digits: 1, last: 0', [], 'dialogue on a pipe'),
+    Wrong('the first line does not begin empty', 'digits: 0, last: 0', 'digits: 1, last: 0', BEGINS, 'dialogue on a pipe'),
     Wrong('the card is not carried from piece to piece', 'carried ' + CALL,
           'let next ' + CALL + ' let card = carried.card; let line = next.line; carried = Carried { card, line, open: next.open };',
           [], 'dialogue on a pipe'),

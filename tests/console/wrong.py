@@ -107,8 +107,9 @@ def linked(start, folder):
     inside = os.path.join(folder, 'crates', start.program)
     ran = subprocess.run(['rt', 'run'], cwd=inside, stdin=subprocess.DEVNULL, stdout=subprocess.DEVNULL, stderr=subprocess.PIPE, check=False)
     said = ran.stderr.decode()
+    wrong = [line[:300] for line in said.splitlines() if re.search(r'error|not proved|no proof|did not build', line)]
     # it runs what it has linked, on no input
-    assert 'rt: running out/' in said, f'the wrong starts are not proved: {said[-3000:]}'
+    assert 'rt: running out/' in said, f'the wrong starts are not proved: {wrong or said[-3000:]}'
     return os.path.join(inside, 'out', start.program)
 
 
