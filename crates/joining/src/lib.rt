@@ -1,5 +1,5 @@
-// 02 h, "Two boxes in a row": "which single line-ending setting does the work of both". What both boxes make of CR and of NL is worked out by the card's
-// own rows, and the setting's three bits are read off that.
+// 02 h, "Two boxes in a row": "which single line-ending setting does the work of both". What both boxes make of CR and of NL is worked out by the
+// rows of their settings, and the setting's three bits are read off that.
 #![tactic(auto)]
 
 ghost use Rattle.std.specs.Prelude.{◌≡◌, true, ◌||◌, eqb};

@@ -75,7 +75,7 @@ pub fn word_count(rt: &impl Env) -> usize {
     count
 }
 
-// The word that stands at this place: how long it is, or none where the buffer is too short for it, which was then said.
+// The word that stands at this place: how long it is, or none where it can't be had, which was then said.
 pub fn read_word(
     rt: &(impl Env + Eprint),
     what: &str,
@@ -86,7 +86,10 @@ pub fn read_word(
 {
     match rt.arg(place, word) {
         Ok(long) => Some(long),
-        Err(FillError::NotPresent) => Some(0),
+        Err(FillError::NotPresent) => {
+            let _ = eprintln!(rt; "{what}: there is no such word");
+            None
+        }
         Err(FillError::TooLong) => {
             let _ = eprintln!(rt; "{what}: the word is too long");
             None

@@ -1,22 +1,31 @@
 -- The line of a pair, and the table column by column and line by line.
 use mathlib.Core.List.{List, [], ◌∷◌, ◌++◌}
+use mathlib.Core.Logic.{◌≢◌}
 use mathlib.Core.Option.{Option, none, some}
 use mathlib.Core.Path.{◌≡◌, refl, sym, ap, ◌∙◌}
 use Prim.Native.Nat.{ℕ, zero, suc, ◌≤◌, ◌<◌}
 use native.Mathlib.Omega.{arith}
-use lib.ListN.{get_or}
-use denote.Enum.Declared.{tag_of}
-use types.Run.{OneOf, miss}
+use lib.ListN.{length, get_or}
 use Rattle.paper.specs.Text.{text, each}
 use Rattle.paper.specs.Decimal.{number_of, decimal}
 use Rattle.paper.specs.TwoBoxes.{eight, single, answered, one_ending}
 use Rattle.paper.specs.EndingLines.{ending_words, column, head_line, column_of, table_line, ending_table, ending_text}
 use Rattle.paper.specs.declared.OneEnding.{OneEnding}
 use Rattle.paper.specs.declared.OneEnding.TheVariants.{Does, NoneDoes, Unanswered}
-use Rattle.paper.specs.contracts.OneEnding as endings
 use Rattle.hexadecimal.specs.Written.{Wrote}
 use Rattle.hexadecimal.proofs.Laws.{wrote_then}
+use Rattle.decimal.proofs.Digits.{decimal_few}
 use Rattle.joining.proofs.Passing.{of_two}
+
+-- HOW MANY DIGITS
+
+-- a setting is a byte, for all that its type says
+pub setting_few : (one : ℕ) → one ≤ 255 → length (decimal one) ≤ 3
+setting_few one h = decimal_few 2 one (omega arith)
+
+-- a box's number in the table
+pub first_few : (first : ℕ) → first ≤ 7 → length (decimal first) ≤ 1
+first_few first h = decimal_few 0 first (omega arith)
 
 -- A PAIR
 
@@ -39,10 +48,9 @@ unfolding column_for
 of_single none = refl
 of_single (some one) = refl
 
--- a match that comes to its last arm has told the variant, counted from 0, to be one that no other arm names
-of_others : (answer : OneEnding) → OneOf (1 ∷ 2 ∷ []) (tag_of endings.the_type answer) → column_for answer ≡ text " -"
+of_others : (answer : OneEnding) → ((one : ℕ) → answer ≢ Does one) → column_for answer ≡ text " -"
 unfolding column_for
-of_others (Does one) h = absurd (miss (1 ∷ 2 ∷ []) 0 tt h)
+of_others (Does one) h = absurd (h one refl)
 of_others NoneDoes h = refl
 of_others (Unanswered r) h = refl
 
@@ -54,7 +62,7 @@ module _ {first second : ℕ} (f : first ≤ 7) (s : second ≤ 7) {answer : One
   unfolding column_for
   column_does e = sym column_is ∙ ap column_for e
 
-  pub column_none : OneOf (1 ∷ 2 ∷ []) (tag_of endings.the_type answer) → column_of first second ≡ text " -"
+  pub column_none : ((one : ℕ) → answer ≢ Does one) → column_of first second ≡ text " -"
   column_none h = sym column_is ∙ of_others answer h
 
 -- THE TABLE

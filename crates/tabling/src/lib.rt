@@ -19,7 +19,7 @@ pub const LONGEST_PAIR: usize = 8 + 3 + 1 + 20 + 1;
 pub const LONGEST_TABLE: usize = 18 + 8 * (1 + 8 * 4 + 1);
 
 // `0` to `7`, or `none`; or `refused 5 4`. From a place on; answers the place behind it, as all that put something here do.
-#[tactic(auto, unfolding(paper::specs::EndingLines::ending_words))]
+#[tactic(auto, using(crate::proofs::Lines::setting_few), unfolding(paper::specs::EndingLines::ending_words))]
 fn put_answer(out: &mut [u8], at: usize, answer: OneEnding) -> usize
     requires { at + longest_refusal ≤ length out.old }
     ensures { WroteWithin longest_refusal out.old at (ending_words answer) out.new result }
@@ -42,6 +42,7 @@ pub fn put_pair(out: &mut [u8], at: usize, first: &[u8], second: &[u8]) -> usize
 }
 
 // A column of the table: the setting behind a space, or `-`.
+#[tactic(auto, using(crate::proofs::Lines::setting_few, crate::proofs::Lines::column_does, crate::proofs::Lines::column_none))]
 fn put_column(out: &mut [u8], at: usize, first: u32, second: u32) -> usize
     requires first_bound { first ≤ 7 }
     requires second_bound { second ≤ 7 }
@@ -70,6 +71,7 @@ fn put_columns(out: &mut [u8], at: usize, first: u32) -> usize
 }
 
 // A line of the table: the first box's number, and a column for each second box.
+#[tactic(auto, using(crate::proofs::Lines::first_few))]
 fn put_line(out: &mut [u8], at: usize, first: u32) -> usize
     requires first_bound { first ≤ 7 }
     requires longest_line_in_bounds { at + longest_line ≤ length out.old }
