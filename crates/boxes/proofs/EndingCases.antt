@@ -27,6 +27,7 @@ single_cases =
       one_four = refl;
       three_five = refl;
       seven_six = refl;
+      four_for_zero = refl;
     }
 
 pub one_ending_cases : OneEndingCases

@@ -1,9 +1,9 @@
 -- Request h's cases, worked out by hand from 01's table. To be read with 02 h beside it.
-use Rattle.std.specs.Prelude.{◌≡◌, List, [], ◌∷◌, ◌++◌, ℕ}
+use Rattle.std.specs.Prelude.{◌≡◌, false, List, [], ◌∷◌, ◌++◌, ℕ}
 use Rattle.std.proofs.Math.Option.{none, some}
 use Rattle.paper.specs.Text.{text}
 use Rattle.paper.specs.Numbers.{ending_numbers}
-use Rattle.paper.specs.TwoBoxes.{acts, followed, single, one_ending}
+use Rattle.paper.specs.TwoBoxes.{acts, followed, works, single, one_ending}
 use Rattle.paper.specs.EndingLines.{ending_text}
 use Rattle.paper.specs.declared.Refusal.TheVariants.{BadField}
 use Rattle.paper.specs.declared.OneEnding.TheVariants.{Does, NoneDoes, Unanswered}
@@ -54,6 +54,8 @@ pub record SingleCases : Type 0 where
   -- CR comes out as CR, NL is dropped: on the list CR NL this is as 5, on NL alone as none
   pub three_five : single 3 5 ≡ none
   pub seven_six : single 7 6 ≡ none
+  -- 4 drops a CR that two boxes with 0 let out
+  pub four_for_zero : works 0 0 4 ≡ false
 
 -- ANY TWO NUMBERS
 
