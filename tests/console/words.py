@@ -2,8 +2,8 @@
 from wrong import Start, Wrong
 
 WRONG = [
-    Wrong('the first rate is left out', 'let mut i = 2;', 'let mut i = 3;', [], 'rate: cases by hand'),
-    Wrong('the clock is listed as a rate', 'let mut i = 2;', 'let mut i = 1;', [], 'rate: cases by hand'),
+    Wrong('the first rate is left out', 'for i in 2..count {', 'for i in 3..count {', [], 'rate: cases by hand'),
+    Wrong('the clock is listed as a rate', 'for i in 2..count {', 'for i in 1..count {', [], 'rate: cases by hand'),
     Wrong('it ends behind the first rate', 'if !write_rate(', 'if write_rate(', [], 'rate: cases by hand'),
     Wrong('the clock alone shows nothing', 'if count == 2 {', 'if count == 1 {', [], 'rate: the clock alone'),
     Wrong('one rate shows the usual ones', 'if count == 2 {', 'if count == 3 {', [], 'rate: cases by hand'),

@@ -1,11 +1,12 @@
 // An answer as a line: which of the lines of crate printing it is.
 #![tactic(auto)]
 
-ghost use Rattle.std.specs.Prelude.{◌≡◌, []};
-ghost use Rattle.hexadecimal.specs.Written.{Wrote};
-ghost use Rattle.printing.specs.Printed.{Room};
+ghost use Rattle.std.specs.Prelude.{◌≡◌, [], ◌≤◌};
+ghost use Rattle.page.specs.Page.{with_text};
+ghost use Rattle.printing.specs.Printed.{longest};
 ghost use Rattle.answers.specs.AnswerLine.{second_number, answer_line, Small};
 
+use page::Page;
 use paper::Answer;
 
 // "fate"; or "taken"; or "00", by the last arm; or "the channel picked, FF for none": what follows 00 where it is one number.
@@ -23,34 +24,34 @@ fn second_number(answer: Answer) -> u8
 }
 
 // The line of an answer to which nothing was lent, from a place on; answers the place behind it.
-fn put_plain(out: &mut [u8], at: usize, answer: Answer) -> usize
-    requires { Room at out.old × Small answer [] }
-    ensures { Wrote out.old at (answer_line answer []) out.new result }
+fn put_plain(page: &mut Page<'_>, answer: Answer)
+    requires { longest ≤ page.old.room × Small answer [] }
+    ensures { page.new ≡ with_text (answer_line answer []) page.old }
 {
     match answer {
-        Answer::Refused(refusal) => printing::put_refused(out, at, refusal),
+        Answer::Refused(refusal) => printing::put_refused(page, refusal),
         Answer::Handed(characters, flagged, bytes) => printing::put_handed(
-            out, at, characters, flagged, bytes, b"",
+            page, characters, flagged, bytes, b"",
         ),
-        Answer::Sent(byte) => printing::put_sent(out, at, byte),
-        Answer::Done => printing::put_alone(out, at, 0),
+        Answer::Sent(byte) => printing::put_sent(page, byte),
+        Answer::Done => printing::put_alone(page, 0),
         Answer::Shown(waiting, sending, stopped, losses) => printing::put_shown(
-            out, at, waiting, sending, stopped, losses,
+            page, waiting, sending, stopped, losses,
         ),
-        _ => printing::put_pair(out, at, 0, second_number(answer)),
+        _ => printing::put_pair(page, 0, second_number(answer)),
     }
 }
 
 // The answer's line: what a read handed over stands in the lent bytes, and of any other answer nothing does.
-pub fn put_answer(out: &mut [u8], at: usize, answer: Answer, lent: &[u8]) -> usize
-    requires { Room at out.old × Small answer lent.now }
-    ensures { Wrote out.old at (answer_line answer lent.now) out.new result }
+pub fn put_answer(page: &mut Page<'_>, answer: Answer, lent: &[u8])
+    requires { longest ≤ page.old.room × Small answer lent.now }
+    ensures { page.new ≡ with_text (answer_line answer lent.now) page.old }
 {
     match answer {
         Answer::Handed(characters, flagged, bytes) => printing::put_handed(
-            out, at, characters, flagged, bytes, lent,
+            page, characters, flagged, bytes, lent,
         ),
-        _ => put_plain(out, at, answer),
+        _ => put_plain(page, answer),
     }
 }
 
@@ -58,59 +59,59 @@ pub fn put_answer(out: &mut [u8], at: usize, answer: Answer, lent: &[u8]) -> usi
 // without asking for the others; any other answer is written all the same, for the promise is that of put_answer.
 
 // An arrival's answer: a fate, but for a refusal.
-pub fn put_arrival(out: &mut [u8], at: usize, answer: Answer) -> usize
-    requires { Room at out.old × Small answer [] }
-    ensures { Wrote out.old at (answer_line answer []) out.new result }
+pub fn put_arrival(page: &mut Page<'_>, answer: Answer)
+    requires { longest ≤ page.old.room × Small answer [] }
+    ensures { page.new ≡ with_text (answer_line answer []) page.old }
 {
     match answer {
-        Answer::Fated(fate) => printing::put_pair(out, at, 0, printing::fate_number(fate)),
-        _ => put_plain(out, at, answer),
+        Answer::Fated(fate) => printing::put_pair(page, 0, printing::fate_number(fate)),
+        _ => put_plain(page, answer),
     }
 }
 
 // A load's answer: how many of the bytes it took.
-pub fn put_load(out: &mut [u8], at: usize, answer: Answer, loaded: &[u8]) -> usize
-    requires { Room at out.old × Small answer loaded.now }
-    ensures { Wrote out.old at (answer_line answer loaded.now) out.new result }
+pub fn put_load(page: &mut Page<'_>, answer: Answer, loaded: &[u8])
+    requires { longest ≤ page.old.room × Small answer loaded.now }
+    ensures { page.new ≡ with_text (answer_line answer loaded.now) page.old }
 {
     match answer {
-        Answer::Took(taken) => printing::put_pair(out, at, 0, taken as u8),
-        _ => put_answer(out, at, answer, loaded),
+        Answer::Took(taken) => printing::put_pair(page, 0, taken as u8),
+        _ => put_answer(page, answer, loaded),
     }
 }
 
 // A line turn's answer: nothing, or the byte sent.
-pub fn put_turn(out: &mut [u8], at: usize, answer: Answer) -> usize
-    requires { Room at out.old × Small answer [] }
-    ensures { Wrote out.old at (answer_line answer []) out.new result }
+pub fn put_turn(page: &mut Page<'_>, answer: Answer)
+    requires { longest ≤ page.old.room × Small answer [] }
+    ensures { page.new ≡ with_text (answer_line answer []) page.old }
 {
     match answer {
-        Answer::Silent => printing::put_pair(out, at, 0, 0),
-        Answer::Sent(byte) => printing::put_sent(out, at, byte),
-        _ => put_plain(out, at, answer),
+        Answer::Silent => printing::put_pair(page, 0, 0),
+        Answer::Sent(byte) => printing::put_sent(page, byte),
+        _ => put_plain(page, answer),
     }
 }
 
 // The answer of CTS, special, reset and settings, which were lent bytes: done, but for a refusal.
-pub fn put_change(out: &mut [u8], at: usize, answer: Answer, bytes: &[u8]) -> usize
-    requires { Room at out.old × Small answer bytes.now }
-    ensures { Wrote out.old at (answer_line answer bytes.now) out.new result }
+pub fn put_change(page: &mut Page<'_>, answer: Answer, bytes: &[u8])
+    requires { longest ≤ page.old.room × Small answer bytes.now }
+    ensures { page.new ≡ with_text (answer_line answer bytes.now) page.old }
 {
     match answer {
-        Answer::Done => printing::put_alone(out, at, 0),
-        _ => put_answer(out, at, answer, bytes),
+        Answer::Done => printing::put_alone(page, 0),
+        _ => put_answer(page, answer, bytes),
     }
 }
 
 // The state's answer: what is shown.
-pub fn put_state(out: &mut [u8], at: usize, answer: Answer) -> usize
-    requires { Room at out.old × Small answer [] }
-    ensures { Wrote out.old at (answer_line answer []) out.new result }
+pub fn put_state(page: &mut Page<'_>, answer: Answer)
+    requires { longest ≤ page.old.room × Small answer [] }
+    ensures { page.new ≡ with_text (answer_line answer []) page.old }
 {
     match answer {
         Answer::Shown(waiting, sending, stopped, losses) => printing::put_shown(
-            out, at, waiting, sending, stopped, losses,
+            page, waiting, sending, stopped, losses,
         ),
-        _ => put_plain(out, at, answer),
+        _ => put_plain(page, answer),
     }
 }

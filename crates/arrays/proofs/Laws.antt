@@ -3,10 +3,10 @@ use mathlib.Core.Path.{◌≡◌, refl, ap}
 use mathlib.Core.List.{List, [], ◌∷◌, ◌++◌, append_assoc}
 use Prim.Native.Nat.{ℕ, zero, suc, ◌+◌, ◌-◌, ◌≤◌, ◌<◌, min}
 use native.Mathlib.Omega.{arith}
-use native.Mathlib.Nat.{add_comm, zero-add, zero-min, min-zero, suc-min-suc}
+use native.Mathlib.Nat.{zero-min, min-zero, suc-min-suc}
 use native.Mathlib.Numerals.{add-one}
 use lib.ListN.{length, take, drop, set, get_or, replicate, length-append, length-drop, length-set, length-replicate, replicate-append-replicate}
-use lib.Seq.{set-append_seam, set-append_left, drop-append-le, get_or-drop, take-suc, length-take-le, take_all}
+use lib.Seq.{set-append_seam, set-append_left, drop-append-le, take-suc, length-take-le}
 use Rattle.arrays.specs.Padded.{padded}
 
 -- all the places
@@ -42,22 +42,6 @@ pub padded_drop : (places n : ℕ) (l : List ℕ) → n ≤ length l → length 
 padded_drop places n l h k =
     let e : places - length l + n ≡ places - length (drop n l) = omega (arith, length-drop n l) in
     rw (drop-append-le, append_assoc, replicate-append-replicate, e)
-
--- An array of zeros takes, place by place, what stands in another from n on: the array when i places are written
-abbrev pub closing : (places : List ℕ) (n i : ℕ) → List ℕ
-closing places n i = padded (length places) (take i (drop n places))
-
-pub closing_step : (places : List ℕ) (n i : ℕ) → i + n < length places
-    → set (closing places n i) i (get_or places (i + n) 0) ≡ closing places n (i + 1)
-closing_step places n i h =
-    let l : i < length (drop n places) = omega (arith, length-drop n places) in
-    rw (add_comm i n, ← get_or-drop n places i 0) (rw zero-add at (padded_more (length places) [] (drop n places) i (omega arith) l))
-
-pub closing_end : (places : List ℕ) (n : ℕ) → n ≤ length places → closing places n (length places - n) ≡ drop n places ++ replicate n 0
-closing_end places n h =
-    let l : length (drop n places) ≡ length places - n = length-drop n places in
-    let e : length places - length (drop n places) ≡ n = omega arith in
-    rw (take_all (length places - n) (drop n places) (omega arith), e)
 
 -- no more are taken, or left out, than there are
 pub take_min : {A : Type 0} (n : ℕ) (l : List A) → take (min n (length l)) l ≡ take n l

@@ -1,7 +1,7 @@
 // Arrays of bytes whose unused places hold zeros, and how many of them are used.
 #![tactic(auto)]
 
-ghost use Rattle.std.specs.Prelude.{◌≡◌, ◌++◌, ◌≤◌, min, length, drop, replicate};
+ghost use Rattle.std.specs.Prelude.{◌≡◌, ◌++◌, ◌≤◌, length, drop, replicate};
 
 // What stands from n on moves to the front of an array of zeros, so that n zeros stand behind it.
 pub fn close_up(places: &[u8], n: usize, closed: &mut [u8])
@@ -9,16 +9,5 @@ pub fn close_up(places: &[u8], n: usize, closed: &mut [u8])
     ensures { closed.new ≡ drop n places.now ++ replicate n 0 }
 {
     let kept = places.len() - n;
-    let mut i: usize = 0;
-    while i < kept {
-        closed[i] = places[i + n];
-        i += 1;
-    }
-}
-
-// The smaller of two counts.
-pub fn least(a: usize, b: usize) -> usize
-    ensures { result ≡ min a b }
-{
-    if a < b { a } else { b }
+    closed[..kept].copy_from_slice(&places[n..]);
 }

@@ -1,2 +1,2 @@
-pub mod Frames
+mod Frames
 mod Onward

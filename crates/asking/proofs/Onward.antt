@@ -7,7 +7,7 @@ use Prim.Native.Nat.{ℕ, ◌/◌, ◌%◌, ◌≤◌}
 use native.Mathlib.Omega.{arith}
 use lib.Dec.{eqb}
 use lib.ListN.{take, drop}
-use Rattle.std.specs.Prelude.{if◌then◌else◌}
+use Rattle.std.specs.Prelude.{Some, None, Result, if◌then◌else◌}
 use Rattle.paper.specs.Settings.{Size}
 use Rattle.paper.specs.Card.{Card}
 use Rattle.paper.specs.Frames.{call_of, line_call, lines, replied}
@@ -16,8 +16,8 @@ use Rattle.hexadecimal.specs.declared.LineSoFar.{LineSoFar}
 use Rattle.hexadecimal.specs.declared.Cut.{Cut}
 use Rattle.hexadecimal.specs.LineSoFar.{held, Fits, left, Gathers}
 use Rattle.hexadecimal.proofs.Laws.{left_start, ended_call}
-use Rattle.asking.specs.declared.Found.{Found}
-use Rattle.asking.specs.declared.Found.TheVariants.{NoLine}
+use Rattle.paper.specs.declared.Refusal.{Refusal}
+use Rattle.asking.specs.declared.Call.{Call}
 use Rattle.asking.specs.Frame.{Means, bytes_in}
 use Rattle.asking.specs.Leads.{goes_on, ends, Leads}
 
@@ -51,19 +51,19 @@ module _ (l : LineSoFar) (frame : List ℕ) (fits : Fits l frame) where
   answered z K rest = rw (left_start z (replied z K (call_of z (take (bytes_in l) frame))).next empty frame rest refl, ← calls z)
 
 module _ (piece : List ℕ) (from : ℕ) (begun : LineSoFar) (before : List ℕ) (r : Cut) (after : List ℕ) (g : Gathers piece from begun before r after) where
-  pub leads_behind : r.ended ≡ true → (long channel : ℕ) (found : Found) → long ≡ bytes_in r.line
-      → ((z : Size) → Means z (take long after) channel found (call_of z (take long after)))
-      → Leads piece from begun before (record { at = r.at; line = empty; long = long; channel = channel; found = found }) after
-  leads_behind e long channel found is means =
+  pub leads_behind : r.ended ≡ true → (long : ℕ) (found : Result Call Refusal) → long ≡ bytes_in r.line
+      → ((z : Size) → Means z (take long after) found (call_of z (take long after)))
+      → Leads piece from begun before (record { at = r.at; line = empty; long = long; found = Some found }) after
+  leads_behind e long found is means =
       record {
-        finds = ends means (λ z K rest. (rw e at (g.same z K rest)) ∙ rw is (answered r.line after g.fits z K (drop r.at piece ++ rest)));
+        finds = ends found refl means (λ z K rest. (rw e at (g.same z K rest)) ∙ rw is (answered r.line after g.fits z K (drop r.at piece ++ rest)));
         fits = empty_fits r.line after g.fits;
         long = rw is (bytes_small r.line after g.fits);
         onward = g.onward;
         within = g.within;
       }
 
-  pub leads_on : r.ended ≡ false → Leads piece from begun before (record { at = r.at; line = r.line; long = 0; channel = 0; found = NoLine }) after
+  pub leads_on : r.ended ≡ false → Leads piece from begun before (record { at = r.at; line = r.line; long = 0; found = None }) after
   leads_on e =
       record {
         finds = goes_on refl (λ z K rest. rw e at (g.same z K rest));

@@ -1,5 +1,5 @@
 -- What a line's frame asks for, as the code tells it.
-use Rattle.std.specs.Prelude.{Bool, List, ◌≡◌, ℕ, ◌/◌, ◌%◌, ◌≤◌, ◌<◌, eqb, ltb, length, drop, replicate, if◌then◌else◌}
+use Rattle.std.specs.Prelude.{List, Result, Ok, Err, ◌≡◌, ℕ, ◌/◌, ◌%◌, ◌≤◌, ◌<◌, eqb, ltb, length, drop, replicate, if◌then◌else◌}
 use Rattle.std.proofs.Math.Option.{Option, none, some}
 use Rattle.paper.specs.Settings.{Size}
 use Rattle.paper.specs.Channel.{ChannelCall}
@@ -9,8 +9,10 @@ use Rattle.paper.specs.Frames.{lent_bytes}
 use Rattle.paper.specs.declared.Asked.{Asked}
 use Rattle.paper.specs.declared.Asked.TheVariants as asked
 use Rattle.hexadecimal.specs.declared.LineSoFar.{LineSoFar}
-use Rattle.asking.specs.declared.Found.{Found}
-use Rattle.asking.specs.declared.Found.TheVariants.{OnChannel, BadChannel, Pick, NoFrame, NoLine}
+use Rattle.paper.specs.declared.Refusal.{Refusal}
+use Rattle.paper.specs.declared.Refusal.TheVariants.{BadChannel, BadLine}
+use Rattle.asking.specs.declared.Call as declared
+use Rattle.asking.specs.declared.Call.TheVariants.{OnChannel, Pick}
 
 -- the bytes that a frame lends: a read's own, and for any other call what stands behind the channel
 abbrev pub lent_to : Size → (frame : List ℕ) → Asked → List ℕ
@@ -41,20 +43,20 @@ pub record Above (c : Option Call) : Type 0 where
   pub call : c ≡ some (on number asked)
   pub above : 3 < number
 
--- what was found in a frame that names the channel n means the call c, or none
-abbrev pub Means : Size → (frame : List ℕ) → (n : ℕ) → Found → Option Call → Type 0
-Means z f n (OnChannel a) c = Asks z f n a c
-Means z f n BadChannel c = Above c
-Means z f n Pick c = c ≡ some pick
-Means z f n NoFrame c = c ≡ none
-Means z f n NoLine c = ⊥
+-- a line that is refused: it names a channel above 3, or its frame asks for no call at all
+pub data Refuses : Refusal → Option Call → Type 0 where
+  bad_channel : {c : Option Call} → Above c → Refuses BadChannel c
+  bad_line : {c : Option Call} → c ≡ none → Refuses BadLine c
 
--- a row of the table, where the frame's length is right or not
-unfoldable pub row_found : (right : Bool) → (channel : ℕ) → Asked → Found
-row_found right channel a = if right then (if ltb 3 channel then BadChannel else OnChannel a) else NoFrame
+-- what was found in a frame means the call c, or none
+abbrev pub Means : Size → (frame : List ℕ) → Result declared.Call Refusal → Option Call → Type 0
+Means z f (Ok (OnChannel n a)) c = Asks z f n a c
+Means z f (Ok Pick) c = c ≡ some pick
+Means z f (Err r) c = Refuses r c
 
-abbrev pub pick_found : (right : Bool) → Found
-pick_found right = if right then Pick else NoFrame
+-- a call on a channel, if there is that channel
+unfoldable pub on_channel : (n : ℕ) → Asked → Result declared.Call Refusal
+on_channel n a = if ltb 3 n then Err BadChannel else Ok (OnChannel n a)
 
 -- how many bytes the frame of a line has; an odd count of digits makes none, and a line that is no frame counts 69
 unfoldable pub bytes_in : LineSoFar → ℕ

@@ -1,25 +1,23 @@
 -- Two boxes in a row: one law, that a setting which does as both on CR alone and on NL alone does so on every list, and one computed test of all pairs.
 use mathlib.Core.Bool.{Bool, true, false, true≢false, not, ◌&&◌, ◌||◌}
 use mathlib.Core.List.{List, [], ◌∷◌, ◌++◌, map, append-nil, map-append, Memᴰ}
-use mathlib.Core.Option.{Option, none, some}
 use mathlib.Core.Path.{◌≡◌, refl, sym, ap, ◌∙◌}
 use Prim.Native.Nat.{ℕ, ◌≤◌}
 use native.Mathlib.Omega.{arith}
 use lib.Dec.{eqb, ltb}
 use borrow.Author.Tests.{eqb-true, ne_eqb, not-true, ltb-false, le-ltb}
-use Rattle.std.specs.Prelude.{if◌then◌else◌}
+use Rattle.std.specs.Prelude.{is_some, if◌then◌else◌, Option, None, Some, Ok, Err}
 use Rattle.paper.specs.Choice.{outside}
-use Rattle.paper.specs.Rate.{every, first_of}
+use Rattle.paper.specs.Rate.{every}
 use Rattle.paper.specs.Text.{each}
 use Rattle.paper.specs.Arrival as steps
-use Rattle.paper.specs.Arrival.{CR, NL, good_item, marking, ending_ruling, woken, stripped, step4, step5, step6, step7, arrival}
+use Rattle.paper.specs.Arrival.{CR, NL, ending, good_item, marking, ending_ruling, woken, stripped, step4, step5, step6, step7, arrival}
 use Rattle.paper.specs.Stream.{good}
-use Rattle.paper.specs.TwoBoxes.{ending_of, comes, acts, followed, works_on, works, eight, single, answered, one_ending}
+use Rattle.paper.specs.TwoBoxes.{comes, acts, followed, works_on, works, eight, single, one_ending}
 use Rattle.paper.specs.declared.Settings.{Settings}
 use Rattle.paper.specs.declared.Flags.{Flags}
 use Rattle.paper.specs.declared.Item.TheVariants.{Plain, Doubled}
 use Rattle.paper.specs.declared.Refusal.TheVariants.{BadField}
-use Rattle.paper.specs.declared.OneEnding.TheVariants.{Does, Unanswered}
 use Rattle.demands.specs.Marks.{character_of}
 use Rattle.boxes.specs.Boxes.{stored, handed_on, Plainly, Step7, Works, Fails, shown, Says, TwoBoxes, settled, UsedTwice}
 use Rattle.demands.proofs.Choices.{both}
@@ -28,22 +26,22 @@ use Rattle.boxes.proofs.Lists.{same_is, not_same, among, among_is, every_member,
 -- THE LAW
 
 -- a character of its own
-other : (setting b : ℕ) → eqb b CR ≡ false → eqb b NL ≡ false → ending_of setting b ≡ some b
-unfolding ending_of
+other : (setting b : ℕ) → eqb b CR ≡ false → eqb b NL ≡ false → ending setting b ≡ Some b
+unfolding ending
 other setting b c n = rw (c, n)
 
 -- what comes out of one box, and more behind it
 behind : (setting : ℕ) (o : Option ℕ) (l : List ℕ) → acts setting (comes o ++ l) ≡ acts setting (comes o) ++ acts setting l
-behind setting none l = refl
-behind setting (some c) l = ap (◌++ acts setting l) (sym (append-nil (comes (ending_of setting c))))
+behind setting None l = refl
+behind setting (Some c) l = ap (◌++ acts setting l) (sym (append-nil (comes (ending setting c))))
 
 module _ (first second one : ℕ) where
   -- character by character
   by_characters : ((b : ℕ) → acts one (b ∷ []) ≡ followed first second (b ∷ [])) → Works first second one
   by_characters h [] = refl
   by_characters h (b ∷ l) =
-      let here : comes (ending_of one b) ≡ acts second (comes (ending_of first b)) = rw (append-nil, append-nil) at (h b) in
-      rw (here, by_characters h l) (sym (behind second (ending_of first b) (acts first l)))
+      let here : comes (ending one b) ≡ acts second (comes (ending first b)) = rw (append-nil, append-nil) at (h b) in
+      rw (here, by_characters h l) (sym (behind second (ending first b) (acts first l)))
 
   -- CR and NL are the only ones that a setting alters
   pub from_two : works first second one ≡ true → Works first second one
@@ -69,22 +67,18 @@ module _ (first second one : ℕ) where
 
 -- THE COMPUTED TEST
 
-abbrev is_some : Option ℕ → Bool
-is_some none = false
-is_some (some n) = true
-
 -- a pair has a single setting, or a lone NL shows that none of the eight does
 abbrev settles : (first second : ℕ) → Bool
 settles first second = is_some (single first second) || every (λ one. not (works_on first second one shown)) eight
 
 all_settle : every (λ first. every (settles first) eight) eight ≡ true
-unfolding every first_of works single ending_of
+unfolding every works single ending
 all_settle = refl
 
 -- THE TABLE
 
 module _ (first second : ℕ) (f : first ≤ 7) (s : second ≤ 7) where
-  none_works : single first second ≡ none → (one : ℕ) → one ≤ 7 → Fails first second one shown
+  none_works : single first second ≡ None → (one : ℕ) → one ≤ 7 → Fails first second one shown
   none_works e one o =
       let row = every_from (λ n. every (settles n) eight) 0 8 all_settle first (omega arith) (omega arith) in
       let here : settles first second ≡ true = every_from (settles first) 0 8 row second (omega arith) (omega arith) in
@@ -92,16 +86,16 @@ module _ (first second : ℕ) (f : first ≤ 7) (s : second ≤ 7) where
       let this = every_from (λ n. not (works_on first second n shown)) 0 8 none-of-eight one (omega arith) (omega arith) in
       not_same (acts one shown) (followed first second shown) (not-true (works_on first second one shown) this)
 
-  works_least : (one : ℕ) → single first second ≡ some one → Says first second (Does one)
+  works_least : (one : ℕ) → single first second ≡ Some one → Says first second (Ok (Some one))
   unfolding single
   works_least one e =
       let found = first_from (works first second) 0 8 one e in
       Says.works {one = one} f s (omega (arith, found.most)) (from_two first second one found.passes)
       (λ less l. fails_on first second less (found.before less (omega arith) l))
 
-  says_single : (o : Option ℕ) → single first second ≡ o → Says first second (answered o)
-  says_single none e = Says.none_works f s (none_works e)
-  says_single (some one) e = works_least one e
+  says_single : (o : Option ℕ) → single first second ≡ o → Says first second (Ok o)
+  says_single None e = Says.none_works f s (none_works e)
+  says_single (Some one) e = works_least one e
 
 -- of the eight, or not
 inside : (n : ℕ) → outside 0 7 n ≡ false → n ≤ 7
@@ -119,7 +113,7 @@ unfolding one_ending
 two_boxes first second = go (outside 0 7 first) (outside 0 7 second) refl refl
   where
     go : (t u : Bool) → outside 0 7 first ≡ t → outside 0 7 second ≡ u
-        → Says first second (if t || u then Unanswered (BadField 4) else answered (single first second))
+        → Says first second (if t || u then Err (BadField 4) else Ok (single first second))
     go true u e f = Says.refused (λ l m. not_inside first e l)
     go false true e f = Says.refused (λ l m. not_inside second f m)
     go false false e f = says_single first second (inside first e) (inside second f) (single first second) refl
@@ -127,12 +121,12 @@ two_boxes first second = go (outside 0 7 first) (outside 0 7 second) refl refl
 -- USED TWICE
 
 all_settled : every (λ setting. works setting setting setting) settled ≡ true
-unfolding every works ending_of
+unfolding every works ending
 all_settled = refl
 
 -- of the eight each is settled, or a lone NL shows that it is not
 each_tested : every (λ setting. among settled setting || not (works_on setting setting setting shown)) eight ≡ true
-unfolding every ending_of
+unfolding every ending
 each_tested = refl
 
 pub used_twice : (setting : ℕ) → UsedTwice setting
@@ -162,15 +156,15 @@ stored_good s b = go (marking s) (eqb b 0xFF) refl
     go false t e = refl
 
 stored_out : (s : Settings) (o : Option ℕ) → stored (ending_ruling s o) ≡ map good (comes o)
-stored_out s none = refl
-stored_out s (some b) = rw (stored_good s b)
+stored_out s None = refl
+stored_out s (Some b) = rw (stored_good s b)
 
 step7_stores : (s : Settings) (running : Bool) (l : List ℕ) → each (λ b. stored (step7 s running b).ruling) l ≡ map good (acts s.endings l)
-unfolding step7 steps.ending ending_of
+unfolding step7 ending
 step7_stores s running [] = refl
 step7_stores s running (b ∷ l) =
-    let out = comes (ending_of s.endings b) in
-    rw (stored_out s (ending_of s.endings b), step7_stores s running l) (sym (map-append good out (acts s.endings l)))
+    let out = comes (ending s.endings b) in
+    rw (stored_out s (ending s.endings b), step7_stores s running l) (sym (map-append good out (acts s.endings l)))
 
 module _ (s : Settings) (p : Plainly s) (f : Flags) (unmarked : f.literal ≡ false) where
   -- a good character takes step 7 alone
@@ -180,13 +174,13 @@ module _ (s : Settings) (p : Plainly s) (f : Flags) (unmarked : f.literal ≡ fa
 
   handed_out : (o : Option ℕ) → handed_on (ending_ruling s o) ≡ comes o
   unfolding good_item
-  handed_out none = refl
-  handed_out (some b) = rw (ne_eqb s.damaged 4 p.unmarked)
+  handed_out None = refl
+  handed_out (Some b) = rw (ne_eqb s.damaged 4 p.unmarked)
 
   hands_on : (l : List ℕ) → each (λ b. handed_on (arrival s f 0 b).ruling) l ≡ acts s.endings l
-  unfolding step7 steps.ending ending_of
+  unfolding step7 ending
   hands_on [] = refl
-  hands_on (b ∷ l) = rw (takes_step7 b, handed_out (ending_of s.endings b), hands_on l)
+  hands_on (b ∷ l) = rw (takes_step7 b, handed_out (ending s.endings b), hands_on l)
 
 pub step7_acts : (s : Settings) → Step7 s
 step7_acts s = record { stores = step7_stores s; alone = hands_on s }

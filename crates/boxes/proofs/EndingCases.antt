@@ -1,20 +1,20 @@
 -- Request h's cases of the single setting, by computation over the definitions.
 use mathlib.Core.Path.{refl}
-use Rattle.paper.specs.Rate.{first_of}
-use Rattle.paper.specs.TwoBoxes.{ending_of, works, single, one_ending}
+use Rattle.paper.specs.Arrival.{ending}
+use Rattle.paper.specs.TwoBoxes.{works, single, one_ending}
 use Rattle.boxes.specs.EndingCases.{ActsCases, FollowedCases, SingleCases, OneEndingCases}
 
 pub acts_cases : ActsCases
-unfolding ending_of
+unfolding ending
 acts_cases =
     record { zero = refl; one = refl; two = refl; three = refl; four = refl; five = refl; six = refl; seven = refl; nothing = refl }
 
 pub followed_cases : FollowedCases
-unfolding ending_of
+unfolding ending
 followed_cases = record { one_then_four = refl; four_then_one = refl; three_twice = refl }
 
 pub single_cases : SingleCases
-unfolding ending_of first_of works single
+unfolding ending works single
 single_cases =
     record {
       three_three = refl;
@@ -31,7 +31,7 @@ single_cases =
     }
 
 pub one_ending_cases : OneEndingCases
-unfolding ending_of first_of works single one_ending
+unfolding ending works single one_ending
 one_ending_cases =
     record {
       first_pair = refl;

@@ -1,15 +1,15 @@
 -- Request h's cases as numbers and as words, by computation over the definitions.
 use mathlib.Core.Path.{refl}
-use Rattle.paper.specs.Rate.{first_of}
+use Rattle.paper.specs.Arrival.{ending}
 use Rattle.paper.specs.Decimal.{digit, number_of, decimal}
 use Rattle.paper.specs.RateLines.{refused_words}
-use Rattle.paper.specs.TwoBoxes.{ending_of, works, single, one_ending}
+use Rattle.paper.specs.TwoBoxes.{works, single, one_ending}
 use Rattle.paper.specs.EndingLines.{ending_words, head_line, table_line, ending_table, ending_text}
 use Rattle.boxes.specs.EndingCases.{EndingNumberCases, EndingTextCases, EndingTableCases}
 
 -- what the cases compute with: to unfold one of these names is to unfold all that its own line names
 computed : Unit {0}
-unfolding ending_of first_of works single one_ending digit number_of decimal refused_words ending_words head_line table_line ending_table ending_text
+unfolding ending works single one_ending digit number_of decimal refused_words ending_words head_line table_line ending_table ending_text
 computed = tt
 
 pub ending_number_cases : EndingNumberCases

@@ -3,15 +3,16 @@ use mathlib.Core.Bool.{Bool, true, false, true≢false, ◌||◌}
 use mathlib.Core.List.Memᴰ
 use mathlib.Core.List.{List, [], ◌∷◌, Memᴰ}
 use mathlib.Core.Logic.{◌≢◌, ⊎_elim}
-use mathlib.Core.Option.{some, none-ne-some, some-injective}
 use mathlib.Core.Path.{◌≡◌, refl, sym, ap, ◌∙◌}
 use Prim.Native.Nat.{ℕ, zero, suc, ◌+◌, ◌≤◌, ◌<◌}
 use native.Mathlib.Nat.{eq-or-lt_of_le}
 use native.Mathlib.Omega.{arith}
 use lib.Dec.{eqb}
 use borrow.Author.Tests.{eqb-true, eq-eqb}
-use Rattle.std.specs.Prelude.{if◌then◌else◌}
-use Rattle.paper.specs.Rate.{every, first_of}
+use Rattle.std.specs.Prelude.{cond, Some}
+use Rattle.std.specs.List.{find}
+use Rattle.std.proofs.lemmas.Option.{none-some, same_Some}
+use Rattle.paper.specs.Rate.{every}
 use Rattle.paper.specs.TwoBoxes.{same}
 use Rattle.demands.proofs.Choices.{both}
 
@@ -84,14 +85,13 @@ module _ (test : ℕ → Bool) where
         before = λ less l r. ⊎_elim (λ (e : start ≡ less). ap test (sym e) ∙ fails) (λ (m : start < less). f.before less (omega arith) r) (eq-or-lt_of_le l);
       }
 
-  pub first_from : (start many one : ℕ) → first_of test (from start many) ≡ some one → FirstFrom start many one
-  unfolding first_of
-  first_from start zero one h = absurd (none-ne-some one h)
+  pub first_from : (start many one : ℕ) → find test (from start many) ≡ Some one → FirstFrom start many one
+  first_from start zero one h = absurd (none-some one h)
   first_from start (suc many) one h = go (test start) refl h (first_from (suc start) many one)
     where
-      go : (t : Bool) → test start ≡ t → (if t then some start else first_of test (from (suc start) many)) ≡ some one
-          → (first_of test (from (suc start) many) ≡ some one → FirstFrom (suc start) many one) → FirstFrom start (suc many) one
+      go : (t : Bool) → test start ≡ t → cond t (Some start) (find test (from (suc start) many)) ≡ Some one
+          → (find test (from (suc start) many) ≡ Some one → FirstFrom (suc start) many one) → FirstFrom start (suc many) one
       go true e h on =
-          let is : start ≡ one = some-injective start one h in
+          let is : start ≡ one = same_Some start one h in
           record { least = omega arith; most = omega arith; passes = ap test (sym is) ∙ e; before = λ less l r. absurd (omega arith) }
       go false e h on = later start many one e (on h)

@@ -1,5 +1,5 @@
 -- WHAT REQUEST h DEMANDS of two boxes in a row, as types. To be read with 02 h beside it; what is quoted is the request's.
-use Rattle.std.specs.Prelude.{◌≡◌, ◌≢◌, Bool, false, ℕ, ◌≤◌, ◌<◌}
+use Rattle.std.specs.Prelude.{◌≡◌, ◌≢◌, Bool, false, ℕ, ◌≤◌, ◌<◌, Option, None, Some, Result, Ok, Err}
 use mathlib.Core.List.{List, [], ◌∷◌, map, Memᴰ}
 use Rattle.paper.specs.Text.{each}
 use Rattle.paper.specs.Arrival.{NL, step7, arrival}
@@ -7,24 +7,23 @@ use Rattle.paper.specs.Stream.{image, Character, good}
 use Rattle.paper.specs.TwoBoxes.{acts, followed, one_ending}
 use Rattle.paper.specs.declared.Settings.{Settings}
 use Rattle.paper.specs.declared.Flags.{Flags}
-use Rattle.paper.specs.declared.Ruling.{Ruling}
-use Rattle.paper.specs.declared.Ruling.TheVariants.{Store, StoreNothing}
+use Rattle.paper.specs.declared.Refusal.{Refusal}
 use Rattle.paper.specs.declared.Refusal.TheVariants.{BadField}
-use Rattle.paper.specs.declared.OneEnding.{OneEnding}
-use Rattle.paper.specs.declared.OneEnding.TheVariants.{Does, NoneDoes, Unanswered}
+use Rattle.paper.specs.declared.Item.{Item}
+use Rattle.paper.specs.declared.Why.{Why}
 use Rattle.demands.specs.Marks.{character_of}
 
 -- THE TABLE SPEAKS OF THE CARD: what a setting does to a list is what step 7 stores
 
 -- what is stored by a ruling, as a reader knows it
-abbrev pub stored : Ruling → List Character
-stored (Store i) = character_of i ∷ []
-stored (StoreNothing why) = []
+abbrev pub stored : Result Item Why → List Character
+stored (Ok i) = character_of i ∷ []
+stored (Err why) = []
 
 -- the bytes that a host is handed for it, and that arrive at the next box
-abbrev pub handed_on : Ruling → List ℕ
-handed_on (Store i) = image i
-handed_on (StoreNothing why) = []
+abbrev pub handed_on : Result Item Why → List ℕ
+handed_on (Ok i) = image i
+handed_on (Err why) = []
 
 -- a box that does nothing else to a good character: strip, flow characters and literal-next are off; and that marks nothing
 pub record Plainly (s : Settings) : Type 0 where
@@ -56,10 +55,10 @@ module _ (first second : ℕ) where
   Fails one l = acts one l ≢ followed first second l
 
   -- what an answer says of a pair: the least setting that does; "or that none does"; or a value is not of the eight
-  pub data Says : OneEnding → Type 0 where
-    works : {one : ℕ} → first ≤ 7 → second ≤ 7 → one ≤ 7 → Works one → ((less : ℕ) → less < one → (l : List ℕ) × Fails less l) → Says (Does one)
-    none_works : first ≤ 7 → second ≤ 7 → ((one : ℕ) → one ≤ 7 → Fails one shown) → Says NoneDoes
-    refused : (first ≤ 7 → second ≤ 7 → ⊥) → Says (Unanswered (BadField 4))
+  pub data Says : Result (Option ℕ) Refusal → Type 0 where
+    works : {one : ℕ} → first ≤ 7 → second ≤ 7 → one ≤ 7 → Works one → ((less : ℕ) → less < one → (l : List ℕ) × Fails less l) → Says (Ok (Some one))
+    none_works : first ≤ 7 → second ≤ 7 → ((one : ℕ) → one ≤ 7 → Fails one shown) → Says (Ok None)
+    refused : (first ≤ 7 → second ≤ 7 → ⊥) → Says (Err (BadField 4))
 
 -- "For every ordered pair, prove either ... or"
 abbrev pub TwoBoxes : Type 0

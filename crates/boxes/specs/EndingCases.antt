@@ -1,12 +1,10 @@
 -- Request h's cases, worked out by hand from 01's table. To be read with 02 h beside it.
-use Rattle.std.specs.Prelude.{◌≡◌, false, List, [], ◌∷◌, ◌++◌, ℕ}
-use Rattle.std.proofs.Math.Option.{none, some}
+use Rattle.std.specs.Prelude.{◌≡◌, false, List, [], ◌∷◌, ◌++◌, ℕ, None, Some, Ok, Err}
 use Rattle.paper.specs.Text.{text}
 use Rattle.paper.specs.Numbers.{ending_numbers}
 use Rattle.paper.specs.TwoBoxes.{acts, followed, works, single, one_ending}
 use Rattle.paper.specs.EndingLines.{ending_text}
 use Rattle.paper.specs.declared.Refusal.TheVariants.{BadField}
-use Rattle.paper.specs.declared.OneEnding.TheVariants.{Does, NoneDoes, Unanswered}
 
 -- WHAT A SETTING DOES, by 01's rows
 
@@ -37,44 +35,44 @@ pub record FollowedCases : Type 0 where
 
 pub record SingleCases : Type 0 where
   -- CR goes NL CR, NL goes CR NL: as with 0
-  pub three_three : single 3 3 ≡ some 0
+  pub three_three : single 3 3 ≡ Some 0
   -- CR goes NL CR, NL stays NL and goes CR: both CR
-  pub two_one : single 2 1 ≡ some 1
+  pub two_one : single 2 1 ≡ Some 1
   -- CR stays and goes NL, NL goes CR and NL
-  pub one_two : single 1 2 ≡ some 2
-  pub zero_three : single 0 3 ≡ some 3
+  pub one_two : single 1 2 ≡ Some 2
+  pub zero_three : single 0 3 ≡ Some 3
   -- 6 acts as 4 does, and 4 is the least
-  pub zero_six : single 0 6 ≡ some 4
+  pub zero_six : single 0 6 ≡ Some 4
   -- CR is gone, NL comes out as CR; 7 acts as 5 does
-  pub four_seven : single 4 7 ≡ some 5
+  pub four_seven : single 4 7 ≡ Some 5
   -- NL goes CR, and the second box turns it back
-  pub five_three : single 5 3 ≡ some 4
+  pub five_three : single 5 3 ≡ Some 4
   -- every NL of the first box becomes CR, which the second drops: none of the eight drops NL
-  pub one_four : single 1 4 ≡ none
+  pub one_four : single 1 4 ≡ None
   -- CR comes out as CR, NL is dropped: on the list CR NL this is as 5, on NL alone as none
-  pub three_five : single 3 5 ≡ none
-  pub seven_six : single 7 6 ≡ none
+  pub three_five : single 3 5 ≡ None
+  pub seven_six : single 7 6 ≡ None
   -- 4 drops a CR that two boxes with 0 let out
   pub four_for_zero : works 0 0 4 ≡ false
 
 -- ANY TWO NUMBERS
 
 pub record OneEndingCases : Type 0 where
-  pub first_pair : one_ending 0 0 ≡ Does 0
-  pub last_pair : one_ending 7 7 ≡ NoneDoes
-  pub last_with_one : one_ending 7 3 ≡ Does 4
+  pub first_pair : one_ending 0 0 ≡ Ok (Some 0)
+  pub last_pair : one_ending 7 7 ≡ Ok None
+  pub last_with_one : one_ending 7 3 ≡ Ok (Some 4)
   -- "5 is followed by its field": line endings are field 4
-  pub first_above : one_ending 8 0 ≡ Unanswered (BadField 4)
-  pub second_above : one_ending 0 8 ≡ Unanswered (BadField 4)
-  pub both_above : one_ending 8 8 ≡ Unanswered (BadField 4)
-  pub greatest : one_ending 0 4294967295 ≡ Unanswered (BadField 4)
+  pub first_above : one_ending 8 0 ≡ Err (BadField 4)
+  pub second_above : one_ending 0 8 ≡ Err (BadField 4)
+  pub both_above : one_ending 8 8 ≡ Err (BadField 4)
+  pub greatest : one_ending 0 4294967295 ≡ Err (BadField 4)
 
 -- AS NUMBERS AND AS WORDS
 
 pub record EndingNumberCases : Type 0 where
-  pub does : ending_numbers (Does 4) ≡ 0 ∷ 1 ∷ 4 ∷ []
-  pub none_does : ending_numbers NoneDoes ≡ 0 ∷ 0 ∷ []
-  pub refused : ending_numbers (Unanswered (BadField 4)) ≡ 5 ∷ 4 ∷ []
+  pub does : ending_numbers (Ok (Some 4)) ≡ 0 ∷ 1 ∷ 4 ∷ []
+  pub none_does : ending_numbers (Ok None) ≡ 0 ∷ 0 ∷ []
+  pub refused : ending_numbers (Err (BadField 4)) ≡ 5 ∷ 4 ∷ []
 
 -- what the program writes for its words
 pub record EndingTextCases : Type 0 where

@@ -9,15 +9,15 @@ use Rattle.channel.specs.declared.Channel.{Channel}
 use Rattle.channel.specs.Promise as channel
 use Rattle.card.specs.declared.Card.{Card}
 use Rattle.card.specs.Held.{size_of, card_in, Sound}
-use Rattle.hexadecimal.specs.Written.{Wrote}
+use Rattle.page.specs.Page.{Page, with_text}
 use Rattle.answers.specs.AnswerLine.{answer_line}
 
 -- A call on a channel kept its promise, and what it answered was written as a line
-pub record Says (c : Channel) (call : ChannelCall) (before : List ℕ) (at : ℕ) (next : Channel) (after : List ℕ) (end : ℕ) : Type 0 where
+pub record Says (c : Channel) (call : ChannelCall) (before : Page) (next : Channel) (after : Page) : Type 0 where
   pub answer : Answer
   pub lent : List ℕ
-  pub kept : channel.Promise c call (record { answer = answer; channel = next }) lent
-  pub wrote : Wrote before at (answer_line answer lent) after end
+  pub kept : channel.Promise c call (record { answer = answer; next = next }) lent
+  pub wrote : after ≡ with_text (answer_line answer lent) before
 
 -- The answer line of a frame that asks for a call or for none, and the record of the card after it, are the paper's
 pub record Replies (C : Card) (asked : Option Call) (text : List ℕ) (D : Card) : Type 0 where
@@ -26,7 +26,7 @@ pub record Replies (C : Card) (asked : Option Call) (text : List ℕ) (D : Card)
   pub sound : Sound D
 
 -- A frame that is for no channel was answered, and at most the pick's place has moved
-pub record Answers (C : Card) (asked : Option Call) (before : List ℕ) (at : ℕ) (place : ℕ) (after : List ℕ) (end : ℕ) : Type 0 where
+pub record Answers (C : Card) (asked : Option Call) (before : Page) (place : ℕ) (after : Page) : Type 0 where
   pub text : List ℕ
   pub replies : Replies C asked text (record { channels = C.channels; place = place })
-  pub wrote : Wrote before at text after end
+  pub wrote : after ≡ with_text text before

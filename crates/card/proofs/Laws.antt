@@ -9,7 +9,8 @@ use lib.Dec.{leb, lit≤}
 use lib.ListN
 use lib.ListN.{length, get_or, set, length-map}
 use borrow.Author.Tests.{lt-ltb, le-ltb}
-use Rattle.std.specs.Prelude.{if◌then◌else◌}
+use Rattle.std.specs.Prelude as code
+use Rattle.std.specs.Prelude.{Some, None, if◌then◌else◌}
 use Rattle.paper.specs.Settings.{Size}
 use Rattle.paper.specs.Given.{Given, refused}
 use Rattle.paper.specs.Channel.{ChannelCall, lent, fresh}
@@ -23,16 +24,15 @@ use Rattle.paper.specs.declared.Answer.TheVariants.{Refused, Picked, NoneReady}
 use Rattle.demands.proofs.Cases.{ahead}
 use Rattle.demands.proofs.Bounds.{kept, fresh_card_lem}
 use Rattle.channel.specs.declared.Channel.{Channel}
-use Rattle.channel.specs.declared.Answered as one
 use Rattle.channel.specs.Held.{channel_of, channel_in}
 use Rattle.channel.specs.Held as channel
 use Rattle.channel.specs.Promise as channel-promise
 use Rattle.channel.proofs.Laws.{channel_in_lem, lent_and_unlent}
 use Rattle.picking.specs.Look.{found}
 use Rattle.card.specs.declared.Card.{Card}
-use Rattle.card.specs.declared.Answered.{Answered}
+use Rattle.paper.specs.declared.Answered.{Answered}
 use Rattle.card.specs.Held.{size_of, card_of, card_in, Sound}
-use Rattle.card.specs.Promise.{given, answered, Promise, AskedPromise, or_four, next_ready}
+use Rattle.card.specs.Promise.{given, answered, Promise, AskedPromise, as_option, next_ready}
 
 channels_in : (z : Size) (l : List _) → map channel_in (map (channel_of z) l) ≡ l
 channels_in z [] = refl
@@ -73,42 +73,26 @@ mark d C n = channel-promise.at_threshold (get_or C.channels n d)
 abbrev marks : Channel → Card → List Bool
 marks d C = mark d C 0 ∷ mark d C 1 ∷ mark d C 2 ∷ mark d C 3 ∷ []
 
--- a search of marks finds the channel that the paper does, 4 for none
+-- a search of marks finds the channel that the paper does
 searched : (K : model.Card Unit) (marks : List Bool) → ((n : ℕ) → n < 4 → get_or marks n false ≡ ready K n)
-    → (p k count : ℕ) → found marks (ahead p k count) ≡ or_four (first_ready K (ahead p k count))
+    → (p k count : ℕ) → found marks (ahead p k count) ≡ as_option (first_ready K (ahead p k count))
 unfolding found
 searched K marks same p k zero = refl
 searched K marks same p k (suc m) =
     let n = (p + suc k) % 4 in
     rw (same n (omega arith)) (go (ready K n) n (first_ready K (ahead p (suc k) m)) (searched K marks same p (suc k) m))
   where
-    go : (t : Bool) (n : ℕ) {l : ℕ} (o : Option ℕ) → l ≡ or_four o → (if t then n else l) ≡ or_four (if t then some n else o)
+    go : (t : Bool) (n : ℕ) {l : code.Option ℕ} (o : Option ℕ) → l ≡ as_option o → (if t then Some n else l) ≡ as_option (if t then some n else o)
     go true n o e = refl
     go false n o e = e
 
--- who is named is one of the four; 4 says that there is none
-data NamedChannel : Option ℕ → ℕ → Type 0 where
-  somebody : (n : ℕ) → n < 4 → NamedChannel (some n) n
-  nobody : NamedChannel none 4
+is_named : (o : Option ℕ) (n : ℕ) → as_option o ≡ Some n → o ≡ some n
+is_named (some m) n e = let same : m ≡ n = cc in ap some same
+is_named none n e = absurd (let different : ◌≡◌ {A = ℕ} 0 1 = cc in omega arith)
 
-named_ahead : (K : model.Card Unit) (p k count : ℕ) → NamedChannel (first_ready K (ahead p k count)) (or_four (first_ready K (ahead p k count)))
-named_ahead K p k zero = nobody
-named_ahead K p k (suc m) = go (ready K ((p + suc k) % 4)) (first_ready K (ahead p (suc k) m)) (named_ahead K p (suc k) m)
-  where
-    n : ℕ
-    n = (p + suc k) % 4
-
-    go : (t : Bool) (o : Option ℕ) → NamedChannel o (or_four o) → NamedChannel (if t then some n else o) (or_four (if t then some n else o))
-    go true o h = somebody n (omega arith)
-    go false o h = h
-
-is_named : {o : Option ℕ} {n : ℕ} → NamedChannel o n → n < 4 → o ≡ some n
-is_named (somebody n h) small = refl
-is_named nobody small = absurd (omega arith)
-
-is_nobody : {o : Option ℕ} {n : ℕ} → NamedChannel o n → 4 ≤ n → o ≡ none
-is_nobody (somebody n h) beyond = absurd (omega arith)
-is_nobody nobody beyond = refl
+is_nobody : (o : Option ℕ) → as_option o ≡ None → o ≡ none
+is_nobody none e = refl
+is_nobody (some m) e = absurd (let different : ◌≡◌ {A = ℕ} 0 1 = cc in omega arith)
 
 module _ (C : Card) (s : Sound C) where
   pub four : length C.channels ≡ 4
@@ -156,20 +140,16 @@ module _ (C : Card) (s : Sound C) where
   mark_is d (suc (suc (suc (suc n)))) small = absurd (omega arith)
 
   -- marks that were asked one by one
-  pub looked : (d : Channel) {r₀ r₁ r₂ r₃ : Bool} {n : ℕ} → r₀ ≡ mark d C 0 → r₁ ≡ mark d C 1 → r₂ ≡ mark d C 2 → r₃ ≡ mark d C 3
+  pub looked : (d : Channel) {r₀ r₁ r₂ r₃ : Bool} {n : code.Option ℕ} → r₀ ≡ mark d C 0 → r₁ ≡ mark d C 1 → r₂ ≡ mark d C 2 → r₃ ≡ mark d C 3
       → n ≡ found (r₀ ∷ r₁ ∷ r₂ ∷ r₃ ∷ []) (round C.place) → n ≡ next_ready C
   unfolding next_ready
   looked d e₀ e₁ e₂ e₃ e = (rw (e₀, e₁, e₂, e₃) at e) ∙ searched (card_in C) (marks d C) (mark_is d) C.place 0 4
-
-  named : (n : ℕ) → n ≡ next_ready C → NamedChannel (first_ready (card_in C) (round C.place)) n
-  unfolding next_ready
-  named n e = rw e (named_ahead (card_in C) C.place 0 4)
 
   most_at_least_one : 1 ≤ (size_of C).most
   most_at_least_one = lit≤ tt
 
   -- what the step gives is its answer, its record and its bytes; that the record is sound follows
-  pub promised : (call : Call) (g : Given (model.Card Unit)) → given C call ≡ g → (r : Answered) → r ≡ answered C g
+  pub promised : (call : Call) (g : Given (model.Card Unit)) → given C call ≡ g → (r : Answered Card) → r ≡ answered C g
       → Promise C call r g.lent
   unfolding answered given
   promised call g e r k =
@@ -181,19 +161,19 @@ module _ (C : Card) (s : Sound C) where
       }
 
   -- "1: channel above 3", and "a refusal changes nothing"
-  pub refuses : (n : ℕ) (call : ChannelCall) → 3 < n → Promise C (on n call) (record { answer = Refused BadChannel; card = C }) (lent call)
+  pub refuses : (n : ℕ) (call : ChannelCall) → 3 < n → Promise C (on n call) (record { answer = Refused BadChannel; next = C }) (lent call)
   unfolding answered given step
   refuses n call above =
       promised (on n call) (refused BadChannel (card_in C) (lent call)) (rw (lt-ltb 3 n above)) _
-      (ap (λ (x : Card). record { answer = Refused BadChannel; card = x }) s.is)
+      (ap (λ (x : Card). record { answer = Refused BadChannel; next = x }) s.is)
 
   -- a channel's call on a card
-  pub serves : (n : ℕ) (d : Channel) (call : ChannelCall) (r : one.Answered) (l : List ℕ) → n ≤ 3
+  pub serves : (n : ℕ) (d : Channel) (call : ChannelCall) (r : Answered Channel) (l : List ℕ) → n ≤ 3
       → channel-promise.Promise (get_or C.channels n d) call r l
       → Promise C (on n call) (record {
         answer = r.answer;
-        card = record {
-          channels = set C.channels n r.channel;
+        next = record {
+          channels = set C.channels n r.next;
           place = C.place;
         };
       }) l
@@ -206,32 +186,32 @@ module _ (C : Card) (s : Sound C) where
       ap (λ (m : List Channel). set m n (channel_of (size_of C) g.next)) channels_of ∙ sym
       (map-set (channel_of (size_of C)) (map channel_in C.channels) n g.next) in
       rw p.leaves (promised (on n call) (put (card_in C) n g) e _
-      (rw p.gives (ap (λ (m : List Channel). record { answer = g.answer; card = record { channels = m; place = C.place } }) k)))
+      (rw p.gives (ap (λ (m : List Channel). record { answer = g.answer; next = record { channels = m; place = C.place } }) k)))
 
   -- by what is asked of it
-  pub calls : (n : ℕ) (d : Channel) (asked : Asked) (bytes : List ℕ) (place : ℕ) (r : one.Answered) (after : List ℕ) → n ≤ 3
+  pub calls : (n : ℕ) (d : Channel) (asked : Asked) (bytes : List ℕ) (place : ℕ) (r : Answered Channel) (after : List ℕ) → n ≤ 3
       → channel-promise.AskedPromise (get_or C.channels n d) asked bytes place r after
-      → AskedPromise C n asked bytes place (record { answer = r.answer; card = record { channels = set C.channels n r.channel; place = C.place } }) after
+      → AskedPromise C n asked bytes place (record { answer = r.answer; next = record { channels = set C.channels n r.next; place = C.place } }) after
   calls n d asked bytes place r after small p =
       record { lent = p.lent; kept = serves n d (call_with asked bytes place) r p.lent small p.kept; at_hand = p.at_hand }
 
   pub refuses_asked : (n : ℕ) (asked : Asked) (bytes : List ℕ) (place : ℕ) → 3 < n
-      → AskedPromise C n asked bytes place (record { answer = Refused BadChannel; card = C }) bytes
+      → AskedPromise C n asked bytes place (record { answer = Refused BadChannel; next = C }) bytes
   refuses_asked n asked bytes place above =
       let call = call_with asked bytes place in
       record { lent = lent call; kept = refuses n call above; at_hand = sym (lent_and_unlent asked bytes place) }
 
   -- THE PICK
 
-  pub picks : (n : ℕ) → n ≡ next_ready C → n < 4
-      → Promise C pick (record { answer = Picked n; card = record { channels = C.channels; place = n } }) []
-  unfolding answered given step picked card_of card_in
-  picks n e small =
-      promised pick (picked_as (card_in C) (some n)) (ap (picked_as (card_in C)) (is_named (named n e) small)) _
-      (ap (λ (l : List Channel). record { answer = Picked n; card = record { channels = l; place = n } }) channels_of)
+  pub picks : (n : ℕ) → next_ready C ≡ Some n
+      → Promise C pick (record { answer = Picked n; next = record { channels = C.channels; place = n } }) []
+  unfolding answered given step picked card_of card_in next_ready
+  picks n e =
+      promised pick (picked_as (card_in C) (some n)) (ap (picked_as (card_in C)) (is_named _ n e)) _
+      (ap (λ (l : List Channel). record { answer = Picked n; next = record { channels = l; place = n } }) channels_of)
 
-  pub picks_none : (n : ℕ) → n ≡ next_ready C → 4 ≤ n → Promise C pick (record { answer = NoneReady; card = C }) []
-  unfolding answered given step picked card_in
-  picks_none n e beyond =
-      promised pick (picked_as (card_in C) none) (ap (picked_as (card_in C)) (is_nobody (named n e) beyond)) _
-      (ap (λ (x : Card). record { answer = NoneReady; card = x }) s.is)
+  pub picks_none : next_ready C ≡ None → Promise C pick (record { answer = NoneReady; next = C }) []
+  unfolding answered given step picked card_in next_ready
+  picks_none e =
+      promised pick (picked_as (card_in C) none) (ap (picked_as (card_in C)) (is_nobody _ e)) _
+      (ap (λ (x : Card). record { answer = NoneReady; next = x }) s.is)

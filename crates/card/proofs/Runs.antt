@@ -9,16 +9,16 @@ use Rattle.paper.specs.Card as model
 use Rattle.paper.specs.Card.{Call, fresh_card}
 use Rattle.paper.specs.Run.{Seen, seen, run, end, nameless}
 use Rattle.card.specs.declared.Card.{Card}
-use Rattle.card.specs.declared.Answered.{Answered}
+use Rattle.paper.specs.declared.Answered.{Answered}
 use Rattle.card.specs.Held.{size_of, card_of, card_in, Sound}
 use Rattle.card.specs.Promise.{given, answered, Promise}
 use Rattle.card.specs.Runs.{Called, done, then_called, CardAsThePaper, OneAnswer}
 use Rattle.card.proofs.Laws.{card_in_lem, fresh_sound, promised}
 
 -- the record that a call leaves holds the paper's next card
-next_in : (C : Card) (c : Call) (r : Answered) (l : List ℕ) → Promise C c r l → card_in r.card ≡ (given C c).next
+next_in : (C : Card) (c : Call) (r : Answered Card) (l : List ℕ) → Promise C c r l → card_in r.next ≡ (given C c).next
 unfolding answered
-next_in C c r l p = ap (λ (x : Answered). card_in x.card) p.gives ∙ card_in_lem (size_of C) (given C c).next
+next_in C c r l p = ap (λ (x : Answered Card). card_in x.next) p.gives ∙ card_in_lem (size_of C) (given C c).next
 
 -- what is shown of the calls on a card that a record holds, and the card after them
 abbrev shown : model.Card Unit → List Call → List Seen
@@ -32,7 +32,7 @@ unfolding given answered
 shows done = refl
 shows (then_called {C} {D} {c} {cs} {r} {l} {ts} p rest) =
     ap₂ (λ (t : Seen) (us : List Seen). t ∷ us)
-    (ap₂ (λ (x : Answered) (k : List ℕ). record { answer = x.answer; lent = k }) p.gives p.leaves)
+    (ap₂ (λ (x : Answered Card) (k : List ℕ). record { answer = x.answer; lent = k }) p.gives p.leaves)
     (shows rest ∙ ap (λ (K : model.Card Unit). shown K cs) (next_in C c r l p))
 
 leaves : {C D : Card} {cs : List Call} {ts : List Seen} → Sound C → Called C cs ts D → D ≡ card_of card_size (last (card_in C) cs)
@@ -46,7 +46,7 @@ unfolding given answered
 every_list C s [] = subst (λ (D : Card). Called C [] [] D) s.is done
 every_list C s (c ∷ cs) =
     let p = promised C s c (given C c) refl (answered C (given C c)) refl in
-    then_called p (rw (card_in_lem card_size (given C c).next) at (every_list (answered C (given C c)).card p.sound cs))
+    then_called p (rw (card_in_lem card_size (given C c).next) at (every_list (answered C (given C c)).next p.sound cs))
 
 pub card_as_the_paper : CardAsThePaper
 card_as_the_paper =

@@ -3,6 +3,7 @@ use mathlib.Core.Bool.{not}
 use mathlib.Core.List.{List, [], ◌∷◌, ◌++◌, append-nil}
 use mathlib.Core.Option.{Option, none, some}
 use mathlib.Core.Path.{◌≡◌, refl, ap, ap₂, sym, ◌∙◌}
+use Rattle.std.specs.Prelude.{Ok, Err}
 use Prim.Native.Nat.{ℕ, ◌+◌, ◌-◌, ◌*◌, ◌≤◌, ◌<◌, min}
 use native.Mathlib.Omega.{arith}
 use borrow.Author.Tests.{lt-ltb, le-ltb}
@@ -26,6 +27,7 @@ use Rattle.paper.specs.declared.Refusal.{Refusal}
 use Rattle.paper.specs.declared.Refusal.TheVariants.{BadKind, TooMany, NoRoom, BadField}
 use Rattle.paper.specs.declared.Settings.{Settings}
 use Rattle.paper.specs.declared.Answer.{Answer}
+use Rattle.paper.specs.declared.Answered.{Answered}
 use Rattle.paper.specs.declared.Answer.TheVariants.{Refused, Fated, Handed, Done, Shown}
 use Rattle.demands.proofs.Cases.{TransmitDeed, declined, loading, other, transmit_deed}
 use Rattle.demands.proofs.Bounds.{fresh_channel, channel_kept}
@@ -35,13 +37,11 @@ use Rattle.queue.specs.declared.Placed.{Placed}
 use Rattle.queue.specs.declared.Handed as reads
 use Rattle.queue.proofs.Laws.{queue_in_lem, count_is}
 use Rattle.judging.specs.Judged.{judged_as}
-use Rattle.judging.specs.declared.Judged.TheVariants.{Fit, Bad}
 use Rattle.transmitter.specs.Held as transmitter
 use Rattle.transmitter.specs.Held.{answered_as}
-use Rattle.transmitter.specs.declared.Answered as sent
+use Rattle.transmitter.specs.declared.Transmitter.{Transmitter}
 use Rattle.transmitter.proofs.Laws.{transmitter_in_of, parts}
 use Rattle.channel.specs.declared.Channel.{Channel}
-use Rattle.channel.specs.declared.Answered.{Answered}
 use Rattle.channel.specs.Held.{size_of, channel_of, channel_in, Sound}
 use Rattle.channel.specs.Promise.{given, answered, Promise, OneAnswer}
 
@@ -75,7 +75,7 @@ module _ (c : Channel) (s : Sound c) where
 
   module _ (call : ChannelCall) where
     -- what the step gives is its answer, its record and its bytes; that the record is sound follows
-    pub promised : (r : Answered) (l : List ℕ) → r ≡ answered c (given c call) → l ≡ (given c call).lent → Promise c call r l
+    pub promised : (r : Answered Channel) (l : List ℕ) → r ≡ answered c (given c call) → l ≡ (given c call).lent → Promise c call r l
     unfolding answered given
     promised r l e k =
         record {
@@ -87,14 +87,14 @@ module _ (c : Channel) (s : Sound c) where
               (channel_kept (size_of c) (most_at_least_one c) tt (channel_in c) call s.bounds));
         }
 
-    pub keeps : (g : Given (model.Channel Unit)) → given c call ≡ g → (r : Answered) → r ≡ answered c g → Promise c call r g.lent
+    pub keeps : (g : Given (model.Channel Unit)) → given c call ≡ g → (r : Answered Channel) → r ≡ answered c g → Promise c call r g.lent
     keeps g e r k = promised r g.lent (rw e k) (rw e)
 
     -- "A refusal changes nothing"
     pub refuses : (n : Refusal) → given c call ≡ refused n (channel_in c) (lent call)
-        → Promise c call (record { answer = Refused n; channel = c }) (lent call)
+        → Promise c call (record { answer = Refused n; next = c }) (lent call)
     unfolding answered
-    refuses n e = keeps (refused n (channel_in c) (lent call)) e _ (ap (λ (x : Channel). record { answer = Refused n; channel = x }) s.is)
+    refuses n e = keeps (refused n (channel_in c) (lent call)) e _ (ap (λ (x : Channel). record { answer = Refused n; next = x }) s.is)
 
 -- A CALL BY WHAT IS ASKED
 
@@ -174,7 +174,7 @@ module _ (c : Channel) (s : Sound c) where
   pub arrives : (kind b : ℕ) → kind ≤ 3 → (o : Outcome) → o ≡ arrival c.settings c.flags kind b
       → (p : Placed) → p ≡ placing (size_of c).depth (size_of c).depth c.queue o.ruling
       → Promise c (arrive kind b)
-      (record { answer = Fated p.fate; channel = record { settings = c.settings; flags = o.flags; queue = p.queue; transmitter = c.transmitter } }) []
+      (record { answer = Fated p.fate; next = record { settings = c.settings; flags = o.flags; queue = p.queue; transmitter = c.transmitter } }) []
   unfolding answered channel_of channel_in placing
   arrives kind b small o oe p pe =
       keeps c s (arrive kind b) _ (good_kind c kind b small) _ (rw (pe, oe, ← (transmitter_sound c s).is))
@@ -185,19 +185,19 @@ module _ (c : Channel) (s : Sound c) where
       → Promise c (read n place buffer)
       (record {
         answer = Handed h.characters h.flagged h.bytes;
-        channel = record { settings = c.settings; flags = c.flags; queue = h.queue; transmitter = c.transmitter };
+        next = record { settings = c.settings; flags = c.flags; queue = h.queue; transmitter = c.transmitter };
       })
       last
   unfolding answered channel_of channel_in handing
   hands n place buffer e h he last le =
       rw le (keeps c s (read n place buffer) _ e _ (rw (he, ← (transmitter_sound c s).is)))
 
-  pub sends : (l : TransmitCall) (r : sent.Answered)
+  pub sends : (l : TransmitCall) (r : Answered Transmitter)
       → r ≡ answered_as (transmit_step c.settings c.flags (transmitter.transmitter_in c.transmitter) l)
       → Promise c (transmit l)
       (record {
         answer = r.answer;
-        channel = record { settings = c.settings; flags = c.flags; queue = c.queue; transmitter = r.transmitter };
+        next = record { settings = c.settings; flags = c.flags; queue = c.queue; transmitter = r.next };
       })
       (transmit_lent l)
   unfolding answered answered_as channel_of channel_in given channel_step
@@ -205,27 +205,27 @@ module _ (c : Channel) (s : Sound c) where
       rw (← transmit_lent_lem (transmit_deed c.settings c.flags (transmitter.transmitter_in c.transmitter) l))
       (keeps c s (transmit l) _ refl _ (rw (e, ← (queue_sound c s).is)))
 
-  pub refuses_settings : (l : List ℕ) (n : ℕ) → judged_as l (bad_field (size_of c).most l) ≡ Bad n
-      → Promise c (take_settings l) (record { answer = Refused (BadField n); channel = c }) l
+  pub refuses_settings : (l : List ℕ) (n : Refusal) → judged_as l (bad_field (size_of c).most l) ≡ Err n
+      → Promise c (take_settings l) (record { answer = Refused n; next = c }) l
   unfolding given channel_step
   refuses_settings l n e = go (bad_field (size_of c).most l) refl e
     where
-      go : (o : Option ℕ) → bad_field (size_of c).most l ≡ o → judged_as l o ≡ Bad n
-          → Promise c (take_settings l) (record { answer = Refused (BadField n); channel = c }) l
+      go : (o : Option ℕ) → bad_field (size_of c).most l ≡ o → judged_as l o ≡ Err n
+          → Promise c (take_settings l) (record { answer = Refused n; next = c }) l
       go (some m) k j =
-          let same : m ≡ n = cc in
-          refuses c s (take_settings l) (BadField n) (rw (k, same))
+          let same : BadField m ≡ n = cc in
+          rw (← same) (refuses c s (take_settings l) (BadField m) (rw k))
       go none k j = absurd (let different : ◌≡◌ {A = ℕ} 0 1 = cc in omega arith)
 
-  pub takes : (l : List ℕ) (fields : Settings) → judged_as l (bad_field (size_of c).most l) ≡ Fit fields
+  pub takes : (l : List ℕ) (fields : Settings) → judged_as l (bad_field (size_of c).most l) ≡ Ok fields
       → Promise c (take_settings l)
-      (record { answer = Done; channel = record { settings = fields; flags = model.fresh_flags; queue = c.queue; transmitter = c.transmitter } }) l
+      (record { answer = Done; next = record { settings = fields; flags = model.fresh_flags; queue = c.queue; transmitter = c.transmitter } }) l
   unfolding given answered channel_step channel_of channel_in
   takes l fields e = go (bad_field (size_of c).most l) refl e
     where
-      go : (o : Option ℕ) → bad_field (size_of c).most l ≡ o → judged_as l o ≡ Fit fields
+      go : (o : Option ℕ) → bad_field (size_of c).most l ≡ o → judged_as l o ≡ Ok fields
           → Promise c (take_settings l)
-          (record { answer = Done; channel = record { settings = fields; flags = model.fresh_flags; queue = c.queue; transmitter = c.transmitter } }) l
+          (record { answer = Done; next = record { settings = fields; flags = model.fresh_flags; queue = c.queue; transmitter = c.transmitter } }) l
       go (some m) k j = absurd (let different : ◌≡◌ {A = ℕ} 0 1 = cc in omega arith)
       go none k j =
           let same : settings_of l ≡ fields = cc in
@@ -233,10 +233,10 @@ module _ (c : Channel) (s : Sound c) where
           (rw (same, ← (queue_sound c s).is, ← (transmitter_sound c s).is))
 
   pub shows : (waiting : ℕ) → waiting ≡ min c.queue.count (size_of c).most → Promise c state
-      (record { answer = Shown waiting c.transmitter.count (not c.flags.running) c.queue.losses; channel = c }) []
+      (record { answer = Shown waiting c.transmitter.count (not c.flags.running) c.queue.losses; next = c }) []
   unfolding given answered channel_step channel_in queue.queue_in
   shows waiting e =
       let counts = ap₂ (λ (w t : ℕ). Shown w t (not c.flags.running) c.queue.losses)
       (e ∙ ap (λ (w : ℕ). min w (size_of c).most) (count_is (size_of c).depth (size_of c).depth c.queue (queue_sound c s)))
       (parts c.transmitter (transmitter_sound c s)).count in
-      keeps c s state (given c state) refl _ (ap₂ (λ (a : Answer) (x : Channel). record { answer = a; channel = x }) counts s.is)
+      keeps c s state (given c state) refl _ (ap₂ (λ (a : Answer) (x : Channel). record { answer = a; next = x }) counts s.is)

@@ -8,8 +8,7 @@ ghost use Rattle.paper.specs.Transmitter as lines;
 ghost use Rattle.channel.specs.Held.{Sound, channel_of};
 ghost use Rattle.channel.specs.Promise.{Promise, AskedPromise, at_threshold};
 
-use judging::Judged;
-use paper::{Answer, Asked, Flags, Refusal, Settings};
+use paper::{Answer, Answered, Asked, Flags, Refusal, Settings};
 use queue::Queue;
 use transmitter::Transmitter;
 
@@ -22,13 +21,6 @@ pub struct Channel {
     pub transmitter: Transmitter,
     pub settings: Settings,
     pub flags: Flags,
-}
-
-// What a call answers, and the channel after it.
-#[derive(Clone, Copy)]
-pub struct Answered {
-    pub answer: Answer,
-    pub channel: Channel,
 }
 
 impl Channel {
@@ -78,83 +70,69 @@ impl Channel {
     }
 
     // A refusal: "changes nothing".
-    fn refuse(self, refusal: Refusal) -> Answered
-        ensures { result ≡ record { answer = Answer.Refused refusal; channel = self } }
+    fn refuse(self, refusal: Refusal) -> Answered<Channel>
+        ensures { result ≡ record { answer = Answer.Refused refusal; next = self } }
     {
         Answered {
             answer: Answer::Refused(refusal),
-            channel: self,
+            next: self,
         }
     }
 
     // One arrival. Refusal 2: kind above 3.
-    pub fn arrive(mut self, kind: u8, byte: u8) -> Answered
+    pub fn arrive(mut self, kind: u8, byte: u8) -> Answered<Channel>
         requires { Sound self }
         ensures { Promise self (calls.arrive kind byte) result [] }
     {
         if 3 < kind {
             return self.refuse(Refusal::BadKind);
         }
-        let settings = self.settings;
-        let flags = self.flags;
-        let outcome = rules::arrival(settings, flags, kind, byte);
-        let ruling = outcome.ruling;
-        let queue = self.queue;
-        let placed = queue.place(ruling, Channel::DEPTH);
-        let fate = placed.fate;
-        let flags = outcome.flags;
-        let queue = placed.queue;
-        self.flags = flags;
-        self.queue = queue;
+        let outcome = rules::arrival(self.settings, self.flags, kind, byte);
+        let placed = self.queue.place(outcome.ruling, Channel::DEPTH);
+        self.flags = outcome.flags;
+        self.queue = placed.queue;
         Answered {
-            answer: Answer::Fated(fate),
-            channel: self,
+            answer: Answer::Fated(placed.fate),
+            next: self,
         }
     }
 
     // "Read n characters, n from 0 to 12". Refusals: 3 more than 12 asked, 4 fewer than 3n bytes from the place to the buffer's end, or the place
     // beyond the end.
-    pub fn read(mut self, n: usize, buffer: &mut [u8], place: usize) -> Answered
+    pub fn read(mut self, n: usize, buffer: &mut [u8], place: usize) -> Answered<Channel>
         requires { Sound self }
         ensures { Promise self (calls.read n place buffer.old) result buffer.new }
     {
-        if (Channel::MOST as usize) < n {
+        if usize::from(Channel::MOST) < n {
             return self.refuse(Refusal::TooMany);
         }
-        if buffer.len() < place {
+        if buffer.len() < place || buffer.len() - place < 3 * n {
             return self.refuse(Refusal::NoRoom);
         }
-        if buffer.len() - place < 3 * n {
-            return self.refuse(Refusal::NoRoom);
-        }
-        let queue = self.queue;
-        let handed = queue.hand_over(n, buffer, place);
-        let queue = handed.queue;
-        self.queue = queue;
+        let handed = self.queue.hand_over(n, buffer, place);
+        self.queue = handed.queue;
         Answered {
             answer: Answer::Handed(handed.characters, handed.flagged, handed.bytes),
-            channel: self,
+            next: self,
         }
     }
 
     // Settings. Refusal 5: not 15 bytes (field 0) or the first bad field.
-    pub fn take_settings(mut self, bytes: &[u8]) -> Answered
+    pub fn take_settings(mut self, bytes: &[u8]) -> Answered<Channel>
         requires { Sound self }
         ensures { Promise self (calls.take_settings bytes.now) result bytes.now }
     {
-        let judged = judging::judge(bytes, Channel::MOST);
-        match judged {
-            Judged::Bad(field) => self.refuse(Refusal::BadField(field)),
-            Judged::Fit(settings) => {
-                let flags = Flags {
+        match judging::judge(bytes, Channel::MOST) {
+            Err(refusal) => self.refuse(refusal),
+            Ok(settings) => {
+                self.settings = settings;
+                self.flags = Flags {
                     literal: false,
                     running: true,
                 };
-                self.settings = settings;
-                self.flags = flags;
                 Answered {
                     answer: Answer::Done,
-                    channel: self,
+                    next: self,
                 }
             }
         }
@@ -162,13 +140,13 @@ impl Channel {
 
     // "Reset makes one channel fresh."
     #[tactic(auto, unfolding(crate::specs::Promise::given, crate::specs::Promise::answered, paper::specs::Channel::channel_step))]
-    pub fn reset(self) -> Answered
+    pub fn reset(self) -> Answered<Channel>
         requires { Sound self }
         ensures { Promise self calls.reset result [] }
     {
         Answered {
             answer: Answer::Done,
-            channel: Channel::fresh(),
+            next: Channel::fresh(),
         }
     }
 
@@ -176,10 +154,10 @@ impl Channel {
     // The channel stays as it is.
     pub fn state(self) -> Answer
         requires { Sound self }
-        ensures { Promise self calls.state (record { answer = result; channel = self }) [] }
+        ensures { Promise self calls.state (record { answer = result; next = self }) [] }
     {
         Answer::Shown(
-            arrays::least(self.queue.count, Channel::MOST as usize),
+            self.queue.count.min(usize::from(Channel::MOST)),
             self.transmitter.count,
             !self.flags.running,
             self.queue.losses,
@@ -187,18 +165,18 @@ impl Channel {
     }
 
     // Any of these calls, by what is asked. The bytes at hand are lent to the calls that take some; the place is a read's.
-    pub fn call(self, asked: Asked, bytes: &mut [u8], place: usize) -> Answered
+    pub fn call(self, asked: Asked, bytes: &mut [u8], place: usize) -> Answered<Channel>
         requires { Sound self }
         ensures { AskedPromise self asked bytes.old place result bytes.new }
     {
         match asked {
             Asked::Arrive(kind, byte) => self.arrive(kind, byte),
-            Asked::Read(n) => self.read(n as usize, bytes, place),
+            Asked::Read(n) => self.read(usize::from(n), bytes, place),
             Asked::TakeSettings => self.take_settings(bytes),
             Asked::Reset => self.reset(),
             Asked::State => Answered {
                 answer: self.state(),
-                channel: self,
+                next: self,
             },
             Asked::Load => self.load(bytes),
             Asked::Turn => self.turn(),
@@ -213,78 +191,53 @@ impl Channel {
         requires { Sound self }
         ensures { result ≡ at_threshold self }
     {
-        let threshold = self.settings.threshold as usize;
-        threshold <= self.queue.count
+        usize::from(self.settings.threshold) <= self.queue.count
     }
 
     // The channel with another transmitter, and what the transmitter answers.
-    fn send(self, sent: transmitter::Answered) -> Answered
-        ensures { result ≡ record {
-          answer = sent.answer;
-          channel = record {
-            settings = self.settings;
-            flags = self.flags;
-            queue = self.queue;
-            transmitter = sent.transmitter;
-          };
-        } }
+    fn send(mut self, sent: Answered<Transmitter>) -> Answered<Channel>
+        ensures { result ≡ record { answer = sent.answer; next = record self { transmitter = sent.next } } }
     {
-        let answer = sent.answer;
-        let transmitter = sent.transmitter;
-        let queue = self.queue;
-        let settings = self.settings;
-        let flags = self.flags;
+        self.transmitter = sent.next;
         Answered {
-            answer,
-            channel: Channel {
-                queue,
-                transmitter,
-                settings,
-                flags,
-            },
+            answer: sent.answer,
+            next: self,
         }
     }
 
     // "Load: takes the first min(length, room) bytes; answers that number."
     #[tactic(auto, unfolding(paper::specs::Transmitter::transmit_step, transmitter::specs::Held::loads))]
-    pub fn load(self, bytes: &[u8]) -> Answered
+    pub fn load(self, bytes: &[u8]) -> Answered<Channel>
         requires { Sound self }
         ensures { Promise self (calls.transmit (lines.load bytes.now)) result bytes.now }
     {
-        let transmitter = self.transmitter;
-        self.send(transmitter.load(bytes))
+        self.send(self.transmitter.load(bytes))
     }
 
     // "Line turn, one character time."
     #[tactic(auto, unfolding(paper::specs::Transmitter::transmit_step, transmitter::specs::Held::turns))]
-    pub fn turn(self) -> Answered
+    pub fn turn(self) -> Answered<Channel>
         requires { Sound self }
         ensures { Promise self (calls.transmit lines.turn) result [] }
     {
-        let transmitter = self.transmitter;
-        let settings = self.settings;
-        let flags = self.flags;
-        self.send(transmitter.turn(settings, flags))
+        self.send(self.transmitter.turn(self.settings, self.flags))
     }
 
     // CTS. Refusal 10: neither 0 nor 1.
     #[tactic(auto, unfolding(paper::specs::Transmitter::transmit_step, transmitter::specs::Held::sets_cts))]
-    pub fn set_cts(self, value: u8) -> Answered
+    pub fn set_cts(self, value: u8) -> Answered<Channel>
         requires { Sound self }
         ensures { Promise self (calls.transmit (lines.set_cts value)) result [] }
     {
-        let transmitter = self.transmitter;
-        self.send(transmitter.set_cts(value))
+        self.send(self.transmitter.set_cts(value))
     }
 
     // "Special s from 1 to 4: the present special character s waits for the next turn." Refusals: 6 not 1 to 4, 7 one already waits.
     #[tactic(auto, unfolding(paper::specs::Transmitter::transmit_step, transmitter::specs::Held::asks_special))]
-    pub fn ask_special(self, number: u8) -> Answered
+    pub fn ask_special(self, number: u8) -> Answered<Channel>
         requires { Sound self }
         ensures { Promise self (calls.transmit (lines.ask_special number)) result [] }
     {
-        let transmitter = self.transmitter;
-        let settings = self.settings;
-        self.send(transmitter.ask_special(settings, number))
+        self.send(self.transmitter.ask_special(self.settings, number))
     }
 }

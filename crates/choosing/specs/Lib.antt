@@ -1,1 +1,2 @@
 pub mod Search
+pub mod Kept

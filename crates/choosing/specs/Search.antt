@@ -1,12 +1,10 @@
--- The search: what its numbers keep to, and what is kept after each look.
-use Rattle.std.specs.Prelude.{List, ◌≡◌, ℕ, ◌+◌, ◌*◌, ◌≤◌, ◌<◌, if◌then◌else◌}
-use Rattle.paper.specs.Rate.{divider, gap, nearer, too_far, deviation}
+-- The search: what its numbers keep to.
+use Rattle.std.specs.Prelude.{◌≡◌, ℕ, ◌+◌, ◌*◌, ◌≤◌, ◌<◌, if◌then◌else◌, Result, Ok, Err}
+use Rattle.paper.specs.Rate.{divider, gap, deviating, too_far, deviation}
+use Rattle.paper.specs.declared.Refusal.{Refusal}
 use Rattle.paper.specs.declared.Refusal.TheVariants.{TooFar}
 use Rattle.paper.specs.declared.Pair.{Pair}
-use Rattle.paper.specs.declared.Choosing.{Choosing}
-use Rattle.paper.specs.declared.Choosing.TheVariants.{Chosen, Unchosen}
-use Rattle.rates.specs.Looks.{best}
-use Rattle.choosing.specs.declared.Seen.{Seen}
+use Rattle.paper.specs.declared.Chosen.{Chosen}
 
 -- the greatest divider, 2048 times 255, and the greatest rate times it. So each product fits: a distance is at most this one, since the clock is, and a
 -- distance times a divider, or times a million, is below 2 ^ 57
@@ -23,16 +21,17 @@ pub record Held (p : Pair) : Type 0 where
   pub period : p.period ≤ 255
 
 -- within the bounds, so that its products fit
-pub record Bounded (s : Seen) : Type 0 where
-  pub divider : s.divider ≤ most_divider
-  pub gap : s.gap ≤ most_times
+pub record Bounded (wanted n distance : ℕ) : Type 0 where
+  pub divider : n ≤ most_divider
+  pub times : wanted * n ≤ most_times
+  pub gap : distance ≤ most_times
 
 -- a pair with its own divider and distance
-pub record Measured (clock wanted : ℕ) (s : Seen) : Type 0 where
-  pub divider : s.divider ≡ divider s.pair
-  pub gap : s.gap ≡ gap clock wanted s.divider
-  pub fits : Held s.pair
-  pub within : Bounded s
+pub record Measured (clock wanted : ℕ) (p : Pair) (n distance : ℕ) : Type 0 where
+  pub divider : n ≡ divider p
+  pub gap : distance ≡ gap clock wanted n
+  pub fits : Held p
+  pub within : Bounded wanted n distance
 
 -- the period from 1 to 255 that the exact one, clock over step, stands at or behind
 pub record Beside (clock step period : ℕ) : Type 0 where
@@ -41,11 +40,6 @@ pub record Beside (clock step period : ℕ) : Type 0 where
   pub below : 1 < period → step * period ≤ clock
   pub above : period < 255 → clock ≤ step * (period + 1)
 
--- what is kept after a look at each pair of a list
-pub record Kept (clock wanted : ℕ) (before : Pair) (l : List Pair) (r : Seen) : Type 0 where
-  pub is : r.pair ≡ best (nearer clock wanted) before l
-  pub measured : Measured clock wanted r
-
 -- the answer that a kept pair gives
-unfoldable pub told_of : (clock wanted : ℕ) → Pair → Choosing
-told_of clock wanted p = if too_far clock wanted p then Unchosen TooFar else Chosen p (deviation clock wanted p)
+unfoldable pub told_of : (clock wanted : ℕ) → Pair → Result Chosen Refusal
+told_of clock wanted p = if too_far clock wanted p then Err TooFar else Ok (deviating p (deviation clock wanted p))

@@ -4,124 +4,94 @@
 // reads on. What it finds and writes is proved in `reporting`; no contract can say what is read or written, so these functions are kept thin.
 #![tactic(auto)]
 
-ghost use Rattle.std.specs.Prelude.{false, ◌≡◌, ◌≤◌, length};
+ghost use Rattle.std.specs.Prelude.{◌≡◌, ◌≤◌};
 ghost use Rattle.finding.specs.Bounds.{SoundSearch};
 ghost use Rattle.sheet.specs.Lines.{longest};
-ghost use Rattle.reporting.specs.Program.{PieceReported};
-ghost use Rattle.confirmations.specs.Carried.{GoesOn};
+ghost use Rattle.confirmations.specs.Carried.{search_of, GoesOn, Leaves};
 
 use finding::Search;
+use page::Page;
 use standard::{read_piece, write_text};
-use std::io::Read;
 
 // How many bytes are read at once, and how many of the sheet are written.
 const PIECE: usize = 65536;
 
-// What is carried from piece to piece: the search, whether the last line was put, and whether the output was closed.
+// What is carried from piece to piece: the search, and whether there is more to write.
 #[derive(Clone, Copy)]
-struct Carried {
-    search: Search,
-    over: bool,
-    closed: bool,
+enum Carried {
+    Open(Search),
+    // the last line was put
+    Over(Search),
+    // the output was closed
+    Closed(Search),
+}
+
+impl Carried {
+    fn search(self) -> Search
+        ensures { result ≡ search_of self }
+    {
+        match self {
+            Carried::Open(search) | Carried::Over(search) | Carried::Closed(search) => search,
+        }
+    }
 }
 
 // Reports a piece, and writes out what is found whenever there is no room for more, and at the end.
-fn list(rt: &(impl Print + Eprint), before: Carried, piece: &[u8], out: &mut [u8]) -> Carried
-    requires { GoesOn before × (longest ≤ length out.old) }
-    ensures sound_search { SoundSearch result.search }
-    ensures piece_reported { result.closed ≡ false → PieceReported piece.now before.search result.over result.search }
+#[tactic(auto, using(crate::proofs::Pieces::begins, crate::proofs::Pieces::goes_on_sound))]
+fn list(rt: &(impl Print + Eprint), before: Carried, piece: &[u8], page: &mut Page<'_>) -> Carried
+    requires { GoesOn before × (longest ≤ page.old.capacity) }
+    ensures same_page { page.new.capacity ≡ page.old.capacity }
+    ensures sound_search { SoundSearch (search_of result) }
+    ensures leaves { Leaves piece.now (search_of before) result }
 {
-    let start = before.search;
+    let start = before.search();
     let mut search = start;
     let mut at: usize = 0;
     while at < piece.len() {
-        let reported = reporting::report(search, piece, at, out, 0);
-        let next = reported.search;
-        search = next;
+        page.clear();
+        let reported = reporting::report(search, piece, at, page);
+        search = reported.search;
         at = reported.at;
-        let put = reported.put;
-        if !write_text(rt, &out[..put]) {
-            return Carried {
-                search,
-                over: reported.over,
-                closed: true,
-            };
+        if !write_text(rt, page.text()) {
+            return Carried::Closed(search);
         }
         if reported.over {
-            return Carried {
-                search,
-                over: true,
-                closed: false,
-            };
+            return Carried::Over(search);
         }
     }
-    Carried {
-        search,
-        over: false,
-        closed: false,
-    }
+    Carried::Open(search)
 }
 
 // The last line, at the input's end. Whether the output takes it changes nothing more: the program ends.
-fn close(rt: &(impl Print + Eprint), carried: Carried, out: &mut [u8])
-    requires { GoesOn carried × (longest ≤ length out.old) }
+fn close(rt: &(impl Print + Eprint), carried: Carried, page: &mut Page<'_>)
+    requires { GoesOn carried × (longest ≤ page.old.capacity) }
 {
-    let search = carried.search;
-    let put = reporting::finish(search, out);
-    write_text(rt, &out[..put]);
-}
-
-// The next piece of the input, which stands at the front of the buffer: how long it is, 0 at the input's end, and whether the input failed instead.
-#[derive(Clone, Copy)]
-struct Piece {
-    long: usize,
-    failed: bool,
-}
-
-fn next_piece<R: Read>(rt: &impl Eprint, input: &mut R, piece: &mut [u8]) -> Piece
-    ensures { result.long ≤ length piece.new }
-{
-    let Some(long) = read_piece(rt, input, piece) else {
-        return Piece {
-            long: 0,
-            failed: true,
-        };
-    };
-    Piece {
-        long,
-        failed: false,
-    }
+    page.clear();
+    reporting::finish(carried.search(), page);
+    write_text(rt, page.text());
 }
 
 fn main(rt: HostRuntime) {
-    let mut carried = Carried {
-        search: finding::beginning(),
-        over: false,
-        closed: false,
-    };
+    let mut carried = Carried::Open(Search::beginning());
     let mut input = rt.reader();
     let mut piece = [0u8; PIECE];
     let mut out = [0u8; PIECE];
-    let mut turns = u64::MAX;
-    while turns > 0 {
-        turns -= 1;
-        let got = next_piece(&rt, &mut input, &mut piece);
-        // of an input that failed nobody knows the sum: no last line
-        if got.failed {
-            return;
+    let mut page = Page::on(&mut out);
+    for _ in 0..u64::MAX {
+        match read_piece(&rt, &mut input, &mut piece) {
+            // of an input that failed nobody knows the sum: no last line
+            None => return,
+            Some(0) => {
+                close(&rt, carried, &mut page);
+                return;
+            }
+            Some(n) => carried = list(&rt, carried, &piece[..n], &mut page),
         }
-        let n = got.long;
-        if n == 0 {
-            close(&rt, carried, &mut out);
-            return;
-        }
-        carried = list(&rt, carried, &piece[..n], &mut out);
-        // the last line was put: the rest of the input changes nothing
-        if carried.over {
-            return;
-        }
-        if carried.closed {
-            return;
+        match carried {
+            Carried::Open(_) => {}
+            // the last line was put: the rest of the input changes nothing
+            Carried::Over(_) => return,
+            Carried::Closed(_) => return,
         }
     }
 }

@@ -1,2 +1,3 @@
 pub mod Counted
+pub mod Entries
 pub mod Promise

@@ -1,76 +1,86 @@
 // 02 n: confirmations, over a marked stream and a lent list.
 #![tactic(auto)]
 
-ghost use Rattle.std.specs.Prelude.{◌≡◌, [], map, length};
-ghost use Rattle.paper.specs.Confirmations.{judgement_number, number_of, litres_of, said, place_in, number_in, litres_in, judgement_in};
+ghost use Rattle.std.specs.Prelude.{◌≡◌, []};
+ghost use Rattle.paper.specs.Confirmations.{judgement_number, said, listed_in};
 ghost use Rattle.paper.specs.Stream as paper;
-ghost use Rattle.confirming.specs.Counted.{counted_in, entries_in, HasPlaces};
+ghost use Rattle.confirming.specs.Counted.{counted_in, entries_in, HasPlaces, HasPlace, with_entry};
+ghost use Rattle.confirming.specs.Entries.{Begins, Ready, refused, Nexts};
 ghost use Rattle.confirming.specs.Promise.{columns, Promise};
 
-use arrays::least;
-use finding::Told;
-use paper::{Judgement, Listing, Refusal};
-use stream::Scan;
+use finding::{Search, Stop};
+use paper::{Confirmation, Entry, Judgement, Listed, Refusal};
 
-// How many entries a stream has and the sum of the accepted litres, or that these are more than a list has places for, or than can be counted.
+// A pass over the entries of a stream: where it stands in the stream, and the search behind all before.
 #[derive(Clone, Copy)]
-enum Counted {
-    Entries(usize, usize),
-    TooMany,
+struct Entries<'a> {
+    stream: &'a [u8],
+    at: usize,
+    search: Search,
 }
 
-// Counts the entries of a stream of which nothing is broken, for a list of so many places.
-#[tactic(auto, using(crate::proofs::Passes::passing_start))]
-fn count(stream: &[u8], most: usize) -> Counted
+impl<'a> Entries<'a> {
+    fn of(stream: &'a [u8]) -> Entries<'a>
+        ensures { Begins stream.now result }
+    {
+        Entries {
+            stream,
+            at: 0,
+            search: Search::beginning(),
+        }
+    }
+
+    // The next entry, if there is one more; or the refusal of a stream that is broken, or whose characters or litres cannot be counted.
+    fn next(&mut self) -> Result<Option<Entry>, Refusal>
+        requires { Ready self.old }
+        ensures { Nexts self.old self.new result }
+    {
+        let next = self.search.go_on(self.stream, self.at).map_err(refusal)?;
+        self.at = next.at;
+        self.search = next.search;
+        Ok(next.entry)
+    }
+}
+
+// What a stop of the search is refused with.
+fn refusal(stop: Stop) -> Refusal
+    ensures { result ≡ refused stop }
+{
+    match stop {
+        Stop::Broken(place) => Refusal::BrokenStream(place),
+        Stop::Full(_) => Refusal::TooManyEntries,
+    }
+}
+
+// How many entries a stream has of which nothing is broken, and the sum of the accepted litres; or that these are more than a list of so many places
+// has room for, or than can be counted.
+#[tactic(auto, using(crate::proofs::Passes::passing_start, crate::proofs::Passes::ready))]
+fn count(stream: &[u8], most: usize) -> Result<Listed, Refusal>
     requires { (paper.readout stream.now).rest ≡ [] }
     ensures { result ≡ counted_in (paper.readout stream.now).characters most }
 {
-    let mut search = finding::beginning();
-    let mut at = 0;
+    let mut entries = Entries::of(stream);
     let mut count = 0;
-    while at < stream.len() {
-        let next = finding::go_on(search, stream, at);
-        let ahead = next.search;
-        let told = next.told;
-        search = ahead;
-        at = next.at;
-        match told {
-            Told::Nothing => {}
-            Told::One(_) => {
-                if count >= most {
-                    return Counted::TooMany;
-                }
-                count += 1;
-            }
-            // a broken FF never comes: nothing is broken
-            Told::Broken(_) => return Counted::TooMany,
-            Told::Full(_) => return Counted::TooMany,
+    while let Some(_) = entries.next()? {
+        if count >= most {
+            return Err(Refusal::TooManyEntries);
         }
+        count += 1;
     }
-    let finder = search.finder;
-    Counted::Entries(count, finder.sum)
+    let finder = entries.search.finder;
+    Ok(Listed {
+        entries: count,
+        litres: finder.sum,
+    })
 }
 
-// What an entry says, however it is judged: "a four-digit number ... litres"; 0 and 0 of one that is set aside.
-fn number_of(judgement: Judgement) -> u16
-    ensures { result ≡ number_of (said judgement) }
+// What an entry says, however it is judged: "a four-digit number ... litres"; nothing, where it is set aside.
+fn said(judgement: Judgement) -> Option<Confirmation>
+    ensures { result ≡ said judgement }
 {
     match judgement {
-        Judgement::Accepted(c) => c.number,
-        Judgement::Gap(c) => c.number,
-        Judgement::Repeated(c) => c.number,
-        Judgement::Aside => 0,
-    }
-}
-
-fn litres_of(judgement: Judgement) -> u32
-    ensures { result ≡ litres_of (said judgement) }
-{
-    match judgement {
-        Judgement::Accepted(c) => c.litres,
-        Judgement::Gap(c) => c.litres,
-        Judgement::Repeated(c) => c.litres,
-        Judgement::Aside => 0,
+        Judgement::Accepted(c) | Judgement::Gap(c) | Judgement::Repeated(c) => Some(c),
+        Judgement::Aside => None,
     }
 }
 
@@ -86,47 +96,45 @@ fn number_for(judgement: Judgement) -> u8
     }
 }
 
-// Puts all entries of a stream into the fronts of four columns; answers how many. Neither a broken FF nor a full count comes: nothing is broken, and
-// all can be counted.
-#[tactic(auto, using(crate::proofs::Passes::putting_start, crate::proofs::Passes::never_broken, crate::proofs::Passes::never_full))]
+// Puts an entry into the four columns.
+fn put_entry(
+    entry: Entry,
+    at: usize,
+    places: &mut [usize],
+    numbers: &mut [u16],
+    litres: &mut [u32],
+    judgements: &mut [u8],
+)
+    requires { HasPlace at (columns places.old numbers.old litres.old judgements.old) }
+    ensures { columns places.new numbers.new litres.new judgements.new
+        ≡ with_entry (columns places.old numbers.old litres.old judgements.old) at entry }
+{
+    let confirmation = said(entry.judgement);
+    places[at] = entry.place;
+    numbers[at] = confirmation.map_or(0, |c| c.number);
+    litres[at] = confirmation.map_or(0, |c| c.litres);
+    judgements[at] = number_for(entry.judgement);
+}
+
+// Puts all entries of a stream into the fronts of four columns. No refusal comes: nothing is broken, and all can be counted.
+#[tactic(auto, using(crate::proofs::Passes::putting_start, crate::proofs::Passes::put_ready, crate::proofs::Passes::has_place, crate::proofs::Passes::puts_one))]
 fn put_entries(
     stream: &[u8],
     places: &mut [usize],
     numbers: &mut [u16],
     litres: &mut [u32],
     judgements: &mut [u8],
-) -> usize
-    requires { HasPlaces stream.now places.old numbers.old litres.old judgements.old }
-    ensures value { result ≡ length (entries_in stream.now) }
-    ensures places_after { places.new ≡ paper.front (map place_in (entries_in stream.now)) places.old }
-    ensures numbers_after { numbers.new ≡ paper.front (map number_in (entries_in stream.now)) numbers.old }
-    ensures litres_after { litres.new ≡ paper.front (map litres_in (entries_in stream.now)) litres.old }
-    ensures judgements_after { judgements.new ≡ paper.front (map judgement_in (entries_in stream.now)) judgements.old }
+)
+    requires { HasPlaces stream.now (columns places.old numbers.old litres.old judgements.old) }
+    ensures { columns places.new numbers.new litres.new judgements.new
+        ≡ listed_in (entries_in stream.now) (columns places.old numbers.old litres.old judgements.old) }
 {
-    let mut search = finding::beginning();
-    let mut at = 0;
+    let mut entries = Entries::of(stream);
     let mut count = 0;
-    while at < stream.len() {
-        let next = finding::go_on(search, stream, at);
-        let ahead = next.search;
-        let told = next.told;
-        search = ahead;
-        at = next.at;
-        match told {
-            Told::Nothing => {}
-            Told::One(entry) => {
-                let judgement = entry.judgement;
-                places[count] = entry.place;
-                numbers[count] = number_of(judgement);
-                litres[count] = litres_of(judgement);
-                judgements[count] = number_for(judgement);
-                count += 1;
-            }
-            Told::Broken(_) => {}
-            Told::Full(_) => {}
-        }
+    while let Ok(Some(entry)) = entries.next() {
+        put_entry(entry, count, places, numbers, litres, judgements);
+        count += 1;
     }
-    count
 }
 
 // "16 if the input has more entries than the lent list has places": then, as in every refusal, nothing is written.
@@ -137,41 +145,37 @@ fn list_whole(
     numbers: &mut [u16],
     litres: &mut [u32],
     judgements: &mut [u8],
-) -> Listing
+) -> Result<Listed, Refusal>
     requires { (paper.readout stream.now).rest ≡ [] }
     ensures { Promise stream.now
         (columns places.old numbers.old litres.old judgements.old)
         (record { answer = result; list = columns places.new numbers.new litres.new judgements.new }) }
 {
-    let most = least(
-        least(places.len(), numbers.len()),
-        least(litres.len(), judgements.len()),
-    );
-    match count(stream, most) {
-        Counted::TooMany => Listing::Unlisted(Refusal::TooManyEntries),
-        Counted::Entries(_, sum) => Listing::Listed(
-            put_entries(stream, places, numbers, litres, judgements),
-            sum,
-        ),
-    }
+    let most = places
+        .len()
+        .min(numbers.len())
+        .min(litres.len().min(judgements.len()));
+    let listed = count(stream, most)?;
+    put_entries(stream, places, numbers, litres, judgements);
+    Ok(listed)
 }
 
 // Lists the confirmations of a marked stream in four lent columns, which have as many places as the shortest of them has: how many, and the sum of the
 // accepted litres; or refusal 8 or 16, in this order.
-#[tactic(auto, using(stream::proofs::Laws::nothing_left))]
+#[tactic(auto, using(stream::proofs::Laws::nothing_left, crate::proofs::Calls::refuses_broken))]
 pub fn list(
     stream: &[u8],
     places: &mut [usize],
     numbers: &mut [u16],
     litres: &mut [u32],
     judgements: &mut [u8],
-) -> Listing
+) -> Result<Listed, Refusal>
     ensures { Promise stream.now
         (columns places.old numbers.old litres.old judgements.old)
         (record { answer = result; list = columns places.new numbers.new litres.new judgements.new }) }
 {
-    match stream::first_broken(stream) {
-        Scan::Broken(place) => Listing::Unlisted(Refusal::BrokenStream(place)),
-        Scan::Whole => list_whole(stream, places, numbers, litres, judgements),
+    if let Some(place) = stream::first_broken(stream) {
+        return Err(Refusal::BrokenStream(place));
     }
+    list_whole(stream, places, numbers, litres, judgements)
 }

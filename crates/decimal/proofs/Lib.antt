@@ -1,4 +1,3 @@
 pub mod Digits
 pub mod ReadBack
-mod Texts
 mod Words

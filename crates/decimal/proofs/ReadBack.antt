@@ -12,7 +12,7 @@ use borrow.Author.Tests.{ltb-true, ltb-false}
 use Rattle.std.specs.Prelude.{if◌then◌else◌}
 use Rattle.paper.specs.Decimal.{digit, spelled, all_digits, last_digits, digits_of, decimal}
 use Rattle.decimal.specs.ReadBack.{DecimalReadsBack, WordReadsBack, NumberReadsBack}
-use Rattle.decimal.proofs.Digits.{length_digits}
+use Rattle.page.proofs.Digits.{length_digits}
 use Rattle.decimal.proofs.Words.{is_digit, word_number}
 
 -- ONE DIGIT BEHIND OTHERS

@@ -8,7 +8,8 @@ use native.Mathlib.Nat.{min-eq_left, min-eq_right}
 use native.Mathlib.Numerals.{add-one}
 use lib.ListN.{length, get_or, drop}
 use lib.Seq.{drop-cons, drop-length}
-use borrow.Author.Tests.{le-leb, lt-leb}
+use borrow.Author.Tests.{le-leb}
+use Rattle.std.specs.Char.{is_ascii_digit}
 use Rattle.std.specs.Prelude.{if◌then◌else◌}
 use Rattle.paper.specs.Decimal.{digit, spelled, all_digits, most32, number_of}
 
@@ -22,13 +23,13 @@ pub is_digit : (b : ℕ) → 0x30 ≤ b → b ≤ 0x39 → digit b ≡ true
 unfolding digit
 is_digit b low high = rw (le-leb 0x30 b low, le-leb b 0x39 high)
 
-pub below_digits : (b : ℕ) → b < 0x30 → digit b ≡ false
+pub no_digit : (b : ℕ) → is_ascii_digit b ≡ false → digit b ≡ false
 unfolding digit
-below_digits b h = rw (lt-leb 0x30 b h)
+no_digit b e = e
 
-pub above_digits : (b : ℕ) → 0x39 < b → digit b ≡ false
+pub ascii_digit : (b : ℕ) → is_ascii_digit b ≡ true → digit b ≡ true
 unfolding digit
-above_digits b h = rw (le-leb 0x30 b (omega arith), lt-leb b 0x39 h)
+ascii_digit b e = e
 
 -- ONE THAT IS TOO LARGE
 
@@ -85,8 +86,8 @@ module _ {word : List ℕ} {value i : ℕ} (r : Read word value i) where
     pub read_too_large : digit character ≡ true → most32 < more → most32 ≡ number_of word
     read_too_large e large = sym (too_large more (drop (suc i) word) large) ∙ rw e at front
 
-    pub read_more : digit character ≡ true → more ≤ most32 → Read word more (i + 1)
-    read_more e small = record { few = omega arith; small = small; same = rw add-one (rw e at front) }
+    pub read_more : {next : ℕ} → digit character ≡ true → next ≡ more → next ≤ most32 → Read word next (i + 1)
+    read_more e is small = record { few = omega arith; small = small; same = rw (add-one, is) (rw e at front) }
 
   pub read_all : length word ≤ i → value ≡ number_of word
   read_all h =

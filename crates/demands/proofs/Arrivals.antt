@@ -2,14 +2,15 @@
 use mathlib.Core.Path.{◌≡◌, refl, subst}
 use mathlib.Core.Bool.{Bool, true, false, ◌&&◌}
 use mathlib.Core.Logic.{◌≢◌}
-use mathlib.Core.Option.{Option, none, some}
 use Prim.Native.Nat.{ℕ, zero, suc, ◌≤◌}
 use native.Mathlib.Omega.{arith}
 use lib.Dec.{eqb, ltb}
 use lib.ListN.{length}
 use borrow.Author.Tests.{eqb-true, eqb-false, ltb-true, ltb-false, le-ltb}
+use Rattle.std.specs.Prelude.{Result, Ok, Err}
 use Rattle.paper.specs.Given.{Given}
 use Rattle.paper.specs.Arrival
+use Rattle.std.specs.Prelude.{Option, None, Some}
 use Rattle.paper.specs.Arrival.{marking, good_item, step1, step2, step4, step5, flow_ruling, step6, ending, ending_ruling, step7}
 use Rattle.paper.specs.Queue.{Queue, place_item, place}
 use Rattle.paper.specs.Channel.{arrive, channel_step}
@@ -19,8 +20,6 @@ use Rattle.paper.specs.declared.Flags.{Flags}
 use Rattle.paper.specs.declared.Item.{Item}
 use Rattle.paper.specs.declared.Item.TheVariants.{Damaged}
 use Rattle.paper.specs.declared.Why.{Why}
-use Rattle.paper.specs.declared.Ruling.{Ruling}
-use Rattle.paper.specs.declared.Ruling.TheVariants.{Store, StoreNothing}
 use Rattle.paper.specs.declared.Fate.{Fate}
 use Rattle.paper.specs.declared.Answer.TheVariants.{Fated}
 use Rattle.paper.specs.declared.Outcome.{Outcome}
@@ -31,11 +30,11 @@ use Rattle.demands.proofs.Cases.{by_number}
 
 -- FATES
 
-fate_of : {A : Type 0} (d : ℕ) (a : A) (r : Ruling) (q : Queue A) → FateOf d (length q.slots) r (place d a r q).fate
-fate_of d a (StoreNothing why) q = nothing why
-fate_of d a (Store i) q = go (ltb (length q.slots) d) refl
+fate_of : {A : Type 0} (d : ℕ) (a : A) (r : Result Item Why) (q : Queue A) → FateOf d (length q.slots) r (place d a r q).fate
+fate_of d a (Err why) q = nothing why
+fate_of d a (Ok i) q = go (ltb (length q.slots) d) refl
   where
-    go : (t : Bool) → ltb (length q.slots) d ≡ t → FateOf d (length q.slots) (Store i) (place_item t i a q).fate
+    go : (t : Bool) → ltb (length q.slots) d ≡ t → FateOf d (length q.slots) (Ok i) (place_item t i a q).fate
     go true e = room i (ltb-true _ _ e)
     go false e = full i (ltb-false _ _ e)
 
@@ -52,9 +51,9 @@ fates A z a K n kind b small known =
 
 -- an item that a ruling stores, if it does, is so
 module _ (P : Item → Type 0) where
-  pub data Fit : Ruling → Type 0 where
-    stores : {i : Item} → P i → Fit (Store i)
-    leaves : {w : Why} → Fit (StoreNothing w)
+  pub data Fit : Result Item Why → Type 0 where
+    stores : {i : Item} → P i → Fit (Ok i)
+    leaves : {w : Why} → Fit (Err w)
 
   pub record FitOutcome (o : Outcome) : Type 0 where
     pub rules : Fit o.ruling
@@ -69,8 +68,8 @@ module _ (P : Item → Type 0) (s : Settings) (good : (c : ℕ) → P (good_item
   flow_fit b = either (Fit P) (eqb s.flow 1) (stores (good b)) leaves
 
   ending_fit : (o : Option ℕ) → Fit P (ending_ruling s o)
-  ending_fit none = leaves
-  ending_fit (some b) = stores (good b)
+  ending_fit None = leaves
+  ending_fit (Some b) = stores (good b)
 
   step4_fit : (f : Flags) (r : Bool) (b : ℕ) {o : Outcome} → FitOutcome P o → FitOutcome P (step4 s f r b o)
   unfolding step4
@@ -88,7 +87,7 @@ module _ (P : Item → Type 0) (s : Settings) (good : (c : ℕ) → P (good_item
 
   step7_fit : (r : Bool) (b : ℕ) → FitOutcome P (step7 s r b)
   unfolding step7
-  step7_fit r b = fit (ending_fit (ending s b))
+  step7_fit r b = fit (ending_fit (ending s.endings b))
 
   steps_fit : (f : Flags) (b : ℕ) → FitOutcome P (Arrival.good s f b)
   unfolding Arrival.good
@@ -125,7 +124,7 @@ spoiled_stands (suc (suc zero)) b known bad whole = framing b
 spoiled_stands (suc (suc (suc zero))) b known bad whole = absurd (whole refl)
 spoiled_stands (suc (suc (suc (suc n)))) b known bad whole = absurd (omega arith)
 
-had : {P : Item → Type 0} {i : Item} → Fit P (Store i) → P i
+had : {P : Item → Type 0} {i : Item} → Fit P (Ok i) → P i
 had (stores p) = p
 
 pub marked : Marked

@@ -4,58 +4,56 @@ use mathlib.Core.Bool.{Bool, true, false, true≢false, or-true}
 use mathlib.Core.Logic.{⊎_elim, ◌≢◌}
 use mathlib.Core.List.Memᴰ
 use mathlib.Core.List.{List, [], ◌∷◌, map, Memᴰ, map-map}
-use mathlib.Core.Option.{Option, none, some, some-ne-none}
 use Prim.Native.Nat.{ℕ, ◌+◌, ◌≤◌}
 use native.Mathlib.Omega.{arith}
 use lib.Dec.{eqb}
 use borrow.Author.Tests.{eqb-false}
-use Rattle.std.specs.Prelude.{if◌then◌else◌}
+use Rattle.std.specs.Prelude.{if◌then◌else◌, Option, Some, None}
+use Rattle.std.proofs.lemmas.Option.{none-some}
 use Rattle.paper.specs.Stream.{Character, good, damaged, byte}
 use Rattle.paper.specs.Confirmations.{confirmation_of, ahead, Run, runs, any_damaged, Finding, finding, found, findings, next, judgement_on, judgement, counted, last_after, judge, judged, entries, accepted, said}
 use Rattle.paper.specs.declared.Confirmation.{Confirmation}
 use Rattle.paper.specs.declared.Judgement.{Judgement}
 use Rattle.paper.specs.declared.Judgement.TheVariants.{Accepted, Gap, Repeated, Aside}
-use Rattle.paper.specs.declared.LastAccepted.{LastAccepted}
-use Rattle.paper.specs.declared.LastAccepted.TheVariants.{NoneYet, Number}
 use Rattle.demands.specs.Confirmations.{StandsIn, Ascending, place_of, finding_in, ListedOnce, AcceptedSound, NoRepeat, NeverTwice}
 use Rattle.demands.proofs.ConfirmationRuns.{in_ahead, stands, all_runs}
 use Rattle.demands.proofs.ConfirmationForms.{right_form}
 
 -- the one last accepted, behind one that was found
-abbrev behind : LastAccepted → Finding → LastAccepted
+abbrev behind : Option ℕ → Finding → Option ℕ
 behind last f = last_after last (counted (judge last f).judgement)
 
 -- LISTED
 
-said_by : (c : Confirmation) (same follows : Bool) → said (if same then Repeated c else if follows then Accepted c else Gap c) ≡ some c
+said_by : (c : Confirmation) (same follows : Bool) → said (if same then Repeated c else if follows then Accepted c else Gap c) ≡ Some c
 said_by c true follows = refl
 said_by c false true = refl
 said_by c false false = refl
 
 -- a judgement keeps what was found
-keeps : (last : LastAccepted) (o : Option Confirmation) → said (judgement last o) ≡ o
+keeps : (last : Option ℕ) (o : Option Confirmation) → said (judgement last o) ≡ o
 unfolding judgement_on
-keeps last none = refl
-keeps NoneYet (some c) = refl
-keeps (Number n) (some c) = said_by c (eqb c.number n) (eqb c.number (next n))
+keeps last None = refl
+keeps None (Some c) = refl
+keeps (Some n) (Some c) = said_by c (eqb c.number n) (eqb c.number (next n))
 
-keeps_finding : (last : LastAccepted) (f : Finding) → finding_in (judge last f) ≡ f
+keeps_finding : (last : Option ℕ) (f : Finding) → finding_in (judge last f) ≡ f
 keeps_finding last f = ap (λ (o : Option Confirmation). record { place = f.place; content = o }) (keeps last f.content)
 
-judged_keeps : (last : LastAccepted) (fs : List Finding) → map finding_in (judged last fs) ≡ fs
+judged_keeps : (last : Option ℕ) (fs : List Finding) → map finding_in (judged last fs) ≡ fs
 judged_keeps last [] = refl
 judged_keeps last (f ∷ fs) = ap₂ (λ (g : Finding) (gs : List Finding). g ∷ gs) (keeps_finding last f) (judged_keeps (behind last f) fs)
 
 listed : (cs : List Character) → map finding_in (entries cs) ≡ findings (runs cs)
-listed cs = judged_keeps NoneYet (findings (runs cs))
+listed cs = judged_keeps None (findings (runs cs))
 
 -- LISTED ONCE
 
-in_findings : {r : Run} {rs : List Run} {g : Finding} → found r ≡ some g → Memᴰ r rs → Memᴰ g (findings rs)
+in_findings : {r : Run} {rs : List Run} {g : Finding} → found r ≡ Some g → Memᴰ r rs → Memᴰ g (findings rs)
 in_findings e (Memᴰ.head is) = rw (ap found (sym is) ∙ e) (Memᴰ.head refl)
 in_findings e (Memᴰ.tail {x} m) = in_ahead (found x) (in_findings e m)
 
-in_entries : (cs : List Character) (r : Run) (g : Finding) → StandsIn cs r → found r ≡ some g → Memᴰ g (map finding_in (entries cs))
+in_entries : (cs : List Character) (r : Run) (g : Finding) → StandsIn cs r → found r ≡ Some g → Memᴰ g (map finding_in (entries cs))
 in_entries cs r g s e = rw (listed cs) (in_findings e ((all_runs cs).every r s))
 
 sooner : (least p : ℕ) (ps : List ℕ) → least ≤ p → Ascending p ps → Ascending least ps
@@ -72,8 +70,8 @@ fewer least (r ∷ rs) a = by (any_damaged r.body) (confirmation_of (map byte r.
     by : (t : Bool) (o : Option Confirmation) → Ascending (r.place + 1) (map finding_place (findings rs))
         → Ascending least (map finding_place (ahead (finding r.place t o) (findings rs)))
     by true o b = (a.0, b)
-    by false none b = sooner least (r.place + 1) (map finding_place (findings rs)) (omega (arith, a.0)) b
-    by false (some c) b = (a.0, b)
+    by false None b = sooner least (r.place + 1) (map finding_place (findings rs)) (omega (arith, a.0)) b
+    by false (Some c) b = (a.0, b)
 
 -- good characters are undamaged, and have the bytes they are made of
 all_undamaged : (bs : List ℕ) → any_damaged (map good bs) ≡ false
@@ -107,34 +105,34 @@ listed_once cs =
 -- NEVER TWICE
 
 another_by : (n : ℕ) (c d : Confirmation) (same follows : Bool) → eqb c.number n ≡ same
-    → counted (if same then Repeated c else if follows then Accepted c else Gap c) ≡ some d → Number n ≢ Number d.number
-another_by n c d true follows e h = absurd (some-ne-none d (sym h))
+    → counted (if same then Repeated c else if follows then Accepted c else Gap c) ≡ Some d → Some n ≢ Some d.number
+another_by n c d true follows e h = absurd (none-some d h)
 another_by n c d false true e h = λ s. eqb-false c.number n e (let i : c ≡ d = cc in let j : n ≡ d.number = cc in rw (i, j))
 another_by n c d false false e h = λ s. eqb-false c.number n e (let i : c ≡ d = cc in let j : n ≡ d.number = cc in rw (i, j))
 
-another : (last : LastAccepted) (o : Option Confirmation) (d : Confirmation) → counted (judgement last o) ≡ some d → last ≢ Number d.number
+another : (last : Option ℕ) (o : Option Confirmation) (d : Confirmation) → counted (judgement last o) ≡ Some d → last ≢ Some d.number
 unfolding judgement_on
-another last none d h = absurd (some-ne-none d (sym h))
-another NoneYet (some c) d h = λ s. let z : ◌≡◌ {A = ℕ} 0 1 = cc in absurd (omega arith)
-another (Number n) (some c) d h = another_by n c d (eqb c.number n) (eqb c.number (next n)) refl h
+another last None d h = absurd (none-some d h)
+another None (Some c) d h = λ s. let z : ◌≡◌ {A = ℕ} 0 1 = cc in absurd (omega arith)
+another (Some n) (Some c) d h = another_by n c d (eqb c.number n) (eqb c.number (next n)) refl h
 
-no_repeat_ahead : (last : LastAccepted) (o : Option Confirmation) (cs : List Confirmation)
-    → ((d : Confirmation) → o ≡ some d → last ≢ Number d.number) → NoRepeat (last_after last o) cs → NoRepeat last (ahead o cs)
-no_repeat_ahead last none cs h r = r
-no_repeat_ahead last (some c) cs h r = (h c refl, r)
+no_repeat_ahead : (last : Option ℕ) (o : Option Confirmation) (cs : List Confirmation)
+    → ((d : Confirmation) → o ≡ Some d → last ≢ Some d.number) → NoRepeat (last_after last o) cs → NoRepeat last (ahead o cs)
+no_repeat_ahead last None cs h r = r
+no_repeat_ahead last (Some c) cs h r = (h c refl, r)
 
-no_repeat : (last : LastAccepted) (fs : List Finding) → NoRepeat last (accepted (judged last fs))
+no_repeat : (last : Option ℕ) (fs : List Finding) → NoRepeat last (accepted (judged last fs))
 no_repeat last [] = tt
 no_repeat last (f ∷ fs) =
     let o = counted (judgement last f.content) in
     no_repeat_ahead last o (accepted (judged (last_after last o) fs)) (another last f.content) (no_repeat (last_after last o) fs)
 
 pub never_twice : (cs : List Character) → NeverTwice cs
-never_twice cs = no_repeat NoneYet (findings (runs cs))
+never_twice cs = no_repeat None (findings (runs cs))
 
 -- ACCEPTED
 
-counted_said : (v : Judgement) (c : Confirmation) → counted v ≡ some c → said v ≡ some c
+counted_said : (v : Judgement) (c : Confirmation) → counted v ≡ Some c → said v ≡ Some c
 counted_said (Accepted d) c h = h
 counted_said (Gap d) c h = h
 counted_said (Repeated d) c h = cc
@@ -142,7 +140,7 @@ counted_said Aside c h = h
 
 -- what was found is of a run
 abbrev OfRun : List Run → Finding → Type 0
-OfRun rs g = (r : Run) × Memᴰ r rs × (found r ≡ some g)
+OfRun rs g = (r : Run) × Memᴰ r rs × (found r ≡ Some g)
 
 of_run : (rs : List Run) (g : Finding) → Memᴰ g (findings rs) → OfRun rs g
 of_run [] g m = absurd (Memᴰ.not-nil m)
@@ -152,29 +150,29 @@ of_run (r ∷ rs) g m = by (λ m'. of_run rs g m') (found r) refl m
     more o = (o.0, Memᴰ.tail o.1, o.2)
 
     by : (Memᴰ g (findings rs) → OfRun rs g) → (o : Option Finding) → found r ≡ o → Memᴰ g (ahead o (findings rs)) → OfRun (r ∷ rs) g
-    by below none e m' = more (below m')
-    by below (some f) e m' =
-        ⊎_elim (λ (is : g ≡ f). (r, Memᴰ.head refl, e ∙ ap some (sym is))) (λ n. more (below n)) (Memᴰ.cases_cons m')
+    by below None e m' = more (below m')
+    by below (Some f) e m' =
+        ⊎_elim (λ (is : g ≡ f). (r, Memᴰ.head refl, e ∙ ap Some (sym is))) (λ n. more (below n)) (Memᴰ.cases_cons m')
 
 -- what was found there, and not set aside
 abbrev found_as : ℕ → Option Confirmation → Finding
 found_as place content = record { place = place; content = content }
 
 found_whole : (place q : ℕ) (c : Confirmation) (t : Bool) (o : Option Confirmation)
-    → finding place t o ≡ some (found_as q (some c)) → (place ≡ q) × (t ≡ false) × (o ≡ some c)
+    → finding place t o ≡ Some (found_as q (Some c)) → (place ≡ q) × (t ≡ false) × (o ≡ Some c)
 found_whole place q c true o h =
-    let same : found_as place none ≡ found_as q (some c) = cc in
-    absurd (some-ne-none c (sym (ap (λ (f : Finding). f.content) same)))
-found_whole place q c false none h = absurd (some-ne-none _ (sym h))
-found_whole place q c false (some d) h =
-    let same : found_as place (some d) ≡ found_as q (some c) = cc in
+    let same : found_as place None ≡ found_as q (Some c) = cc in
+    absurd (none-some c (ap (λ (f : Finding). f.content) same))
+found_whole place q c false None h = absurd (none-some _ h)
+found_whole place q c false (Some d) h =
+    let same : found_as place (Some d) ≡ found_as q (Some c) = cc in
     (ap (λ (f : Finding). f.place) same, refl, ap (λ (f : Finding). f.content) same)
 
 pub accepted_sound : (cs : List Character) → AcceptedSound cs
 accepted_sound cs e c m h =
     let o = of_run (runs cs) (finding_in e) (rw (listed cs) at (Memᴰ.map finding_in m)) in
     let r = o.0 in
-    let says = ap (λ (s : Option Confirmation). some (found_as e.place s)) (counted_said e.judgement c h) in
+    let says = ap (λ (s : Option Confirmation). Some (found_as e.place s)) (counted_said e.judgement c h) in
     let w = found_whole r.place e.place c (any_damaged r.body) (confirmation_of (map byte r.body)) (o.2 ∙ says) in
     let same = ap₂ {C = Run} (λ (p : ℕ) (l : List Character). record { place = p; body = l }) w.0 (all_good r.body w.1) in
     record {

@@ -2,7 +2,8 @@
 use mathlib.Core.Path.{◌≡◌, refl, sym, ap, ◌∙◌}
 use mathlib.Core.Bool.{Bool, true, ◌&&◌}
 use mathlib.Core.List.{List, [], ◌∷◌, ◌++◌}
-use mathlib.Core.Option.{Option, some, some-ne-none}
+use Rattle.std.specs.Prelude.{Option, Some}
+use Rattle.std.proofs.lemmas.Option.{none-some}
 use Prim.Native.Nat.{ℕ, ◌+◌, ◌≤◌}
 use native.Mathlib.Omega.{arith}
 use lib.Dec.{eqb, leb}
@@ -67,17 +68,17 @@ only_by (a₁ ∷ a₂ ∷ a₃ ∷ a₄ ∷ s ∷ bs) c f l m e =
       says = e;
     }
 
-only : (bs : List ℕ) (c : Confirmation) → confirmation_of bs ≡ some c → Spells bs c
+only : (bs : List ℕ) (c : Confirmation) → confirmation_of bs ≡ Some c → Spells bs c
 unfolding confirmation_of
 only bs c =
-    chosen_and (λ (o : Option Confirmation). o ≡ some c → Spells bs c) (all_fit 0 bs) (right_length (length bs))
+    chosen_and (λ (o : Option Confirmation). o ≡ Some c → Spells bs c) (all_fit 0 bs) (right_length (length bs))
     (λ fit right e.
     let long = both (leb 6 (length bs)) _ right in
     only_by bs c fit (leb-true _ _ long.0) (leb-true _ _ long.1) cc)
-    (λ e. absurd (some-ne-none c (sym e)))
+    (λ e. absurd (none-some c e))
 
 every_by : (n l : List ℕ) → length n ≡ 4 → 1 ≤ length l → length l ≤ 6 → AllDigits n → AllDigits l
-    → confirmation_of (n ++ (0x20 ∷ l)) ≡ some (record { number = spelled 0 n; litres = spelled 0 l })
+    → confirmation_of (n ++ (0x20 ∷ l)) ≡ Some (record { number = spelled 0 n; litres = spelled 0 l })
 unfolding confirmation_of fits
 every_by [] l f o s d e = absurd (omega arith)
 every_by (a₁ ∷ []) l f o s d e = absurd (omega arith)
@@ -101,6 +102,6 @@ right_form bs c =
       every = λ s.
           ap confirmation_of s.whole
           ∙ every_by s.number s.litres s.four s.one s.six s.number_digits s.litres_digits
-          ∙ ap some s.says;
+          ∙ ap Some s.says;
       only = only bs c;
     }

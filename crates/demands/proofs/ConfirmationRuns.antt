@@ -4,13 +4,13 @@ use mathlib.Core.Bool.{Bool, true, false}
 use mathlib.Core.Logic.{⊎_elim}
 use mathlib.Core.List.Memᴰ
 use mathlib.Core.List.{List, [], ◌∷◌, ◌++◌, map, Memᴰ}
-use mathlib.Core.Option.{Option, none, some, some-ne-none}
 use Prim.Native.Nat.{ℕ, ◌+◌, ◌≤◌}
 use native.Mathlib.Omega.{arith}
 use lib.Dec.{eqb}
 use lib.ListN.{length}
 use borrow.Author.Tests.{eqb-true}
-use Rattle.std.specs.Prelude.{if◌then◌else◌}
+use Rattle.std.specs.Prelude.{if◌then◌else◌, Option, Some, None}
+use Rattle.std.proofs.lemmas.Option.{none-some}
 use Rattle.paper.specs.Stream.{Character, good, damaged}
 use Rattle.paper.specs.Confirmations.{Mark, start, finish, inner, mark, ahead, body_at, body, Run, run_at, runs_from, runs}
 use Rattle.demands.specs.Confirmations.{Unmarked, nil, cons, StandsIn, Ascending, place_of, Runs}
@@ -45,27 +45,27 @@ pub record Ends (cs l : List Character) : Type 0 where
   pub whole : cs ≡ l ++ (good 0x03 ∷ behind)
   pub inside : Unmarked l
 
-ends_by : (c : Character) (cs l : List Character) → ((l' : List Character) → body cs ≡ some l' → Ends cs l')
-    → (m : Mark) → mark c ≡ m → (o : Option (List Character)) → body cs ≡ o → body_at m c o ≡ some l → Ends (c ∷ cs) l
-ends_by c cs l below start e o f h = absurd (some-ne-none l (sym h))
+ends_by : (c : Character) (cs l : List Character) → ((l' : List Character) → body cs ≡ Some l' → Ends cs l')
+    → (m : Mark) → mark c ≡ m → (o : Option (List Character)) → body cs ≡ o → body_at m c o ≡ Some l → Ends (c ∷ cs) l
+ends_by c cs l below start e o f h = absurd (none-some l h)
 ends_by c cs l below finish e o f h =
     let empty : [] ≡ l = cc in
     rw (← empty) (record { behind = cs; whole = ap (λ (d : Character). d ∷ cs) (good_finish c e); inside = nil })
-ends_by c cs l below inner e none f h = absurd (some-ne-none l (sym h))
-ends_by c cs l below inner e (some l') f h =
+ends_by c cs l below inner e None f h = absurd (none-some l h)
+ends_by c cs l below inner e (Some l') f h =
     let more : c ∷ l' ≡ l = cc in
     let r = below l' f in
     rw (← more) (record { behind = r.behind; whole = ap (λ (ds : List Character). c ∷ ds) r.whole; inside = cons e r.inside })
 
-pub body_ends : (cs l : List Character) → body cs ≡ some l → Ends cs l
-body_ends [] l h = absurd (some-ne-none l (sym h))
+pub body_ends : (cs l : List Character) → body cs ≡ Some l → Ends cs l
+body_ends [] l h = absurd (none-some l h)
 body_ends (c ∷ cs) l h = ends_by c cs l (λ l' h'. body_ends cs l' h') (mark c) refl (body cs) refl h
 
-body_back : {l : List Character} → Unmarked l → (behind : List Character) → body (l ++ (good 0x03 ∷ behind)) ≡ some l
+body_back : {l : List Character} → Unmarked l → (behind : List Character) → body (l ++ (good 0x03 ∷ behind)) ≡ Some l
 unfolding mark
 body_back nil behind = refl
 body_back (cons {c} {cs} e u) behind =
-    ap (body_at (mark c) c) (body_back u behind) ∙ ap (λ (m : Mark). body_at m c (some cs)) e
+    ap (body_at (mark c) c) (body_back u behind) ∙ ap (λ (m : Mark). body_at m c (Some cs)) e
 
 -- RUNS
 
@@ -100,8 +100,8 @@ here p c cs l e ends =
 module _ (p : ℕ) (c : Character) (cs : List Character) (r : Run) (below : Memᴰ r (runs_from (p + 1) cs) → From (p + 1) cs r) where
   only_by : (k : Mark) → mark c ≡ k → (o : Option (List Character)) → body cs ≡ o
       → Memᴰ r (ahead (run_at k p o) (runs_from (p + 1) cs)) → From p (c ∷ cs) r
-  only_by start e none f m = later p c cs r (below m)
-  only_by start e (some l) f m =
+  only_by start e None f m = later p c cs r (below m)
+  only_by start e (Some l) f m =
       ⊎_elim (λ (is : r ≡ record { place = p; body = l }). rw is (here p c cs l e (body_ends cs l f))) (λ m'. later p c cs r (below m'))
       (Memᴰ.cases_cons m)
   only_by finish e o f m = later p c cs r (below m)
@@ -112,8 +112,8 @@ only p [] r m = absurd (Memᴰ.not-nil m)
 only p (c ∷ cs) r m = only_by p c cs r (λ m'. only (p + 1) cs r m') (mark c) refl (body cs) refl m
 
 pub in_ahead : {A : Type 0} (o : Option A) {a : A} {as' : List A} → Memᴰ a as' → Memᴰ a (ahead o as')
-in_ahead none m = m
-in_ahead (some x) m = Memᴰ.tail m
+in_ahead None m = m
+in_ahead (Some x) m = Memᴰ.tail m
 
 every : (p : ℕ) (before behind : List Character) (r : Run) → Unmarked r.body → p + length before ≡ r.place
     → Memᴰ r (runs_from p (before ++ (good 0x02 ∷ (r.body ++ (good 0x03 ∷ behind)))))
@@ -126,8 +126,8 @@ every p (c ∷ before) behind r u e = in_ahead (run_at (mark c) p _) (every (p +
 ascending_by : (least p : ℕ) (cs : List Character) → least ≤ p
     → ((l : ℕ) → l ≤ p + 1 → Ascending l (map place_of (runs_from (p + 1) cs)))
     → (m : Mark) (o : Option (List Character)) → Ascending least (map place_of (ahead (run_at m p o) (runs_from (p + 1) cs)))
-ascending_by least p cs h below start none = below least (omega arith)
-ascending_by least p cs h below start (some l) = (h, below (p + 1) (omega arith))
+ascending_by least p cs h below start None = below least (omega arith)
+ascending_by least p cs h below start (Some l) = (h, below (p + 1) (omega arith))
 ascending_by least p cs h below finish o = below least (omega arith)
 ascending_by least p cs h below inner o = below least (omega arith)
 

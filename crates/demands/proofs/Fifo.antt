@@ -9,10 +9,10 @@ use lib.Dec.{ltb}
 use lib.ListN.{length, take, drop, take-append-drop}
 use lib.Seq.{take-nil, drop-nil}
 use borrow.Author.Tests.{lt-ltb}
-use Rattle.std.specs.Prelude.{if◌then◌else◌}
+use Rattle.std.specs.Prelude.{if◌then◌else◌, Result, Ok, Err}
 use Rattle.paper.specs.Queue.{Slot, Queue, flag_newest, place_item, place}
-use Rattle.paper.specs.declared.Ruling.{Ruling}
-use Rattle.paper.specs.declared.Ruling.TheVariants.{Store, StoreNothing}
+use Rattle.paper.specs.declared.Item.{Item}
+use Rattle.paper.specs.declared.Why.{Why}
 use Rattle.demands.specs.History.{QueueEntry, queue_history, NoReset, handed, loss_now, lost_one, loss_next, stored_as, stored, lost, after}
 use Rattle.demands.specs.Demands.{FirstInFirstOut, LossCount}
 use Rattle.demands.proofs.Placing.{Fits, placed_fits, removed_fits}
@@ -42,12 +42,12 @@ module _ {A : Type 0} where
   flag_twice (x ∷ y ∷ w ∷ l) = ap (λ (r : List (Slot A)). x ∷ r) (flag_twice (y ∷ w ∷ l))
 
   -- an arrival's ruling: what waits afterwards is what waited and what was stored; rest is stored later, t: a loss comes next
-  placing : (d : ℕ) (a : A) (r : Ruling) (q : Queue A) (t : Bool) (rest : List (Slot A))
+  placing : (d : ℕ) (a : A) (r : Result Item Why) (q : Queue A) (t : Bool) (rest : List (Slot A))
       → let p = place d a r q in
       flagged_if t p.queue.slots ++ rest
       ≡ flagged_if (loss_now (some p.fate) t) q.slots ++ (stored_as a (some p.fate) (some r) t ++ rest)
-  placing d a (StoreNothing w) q t rest = refl
-  placing d a (Store i) q t rest = go (ltb (length q.slots) d) t
+  placing d a (Err w) q t rest = refl
+  placing d a (Ok i) q t rest = go (ltb (length q.slots) d) t
     where
       slot : Bool → Slot A
       slot over = record { item = i; over = over; name = a }
@@ -55,7 +55,7 @@ module _ {A : Type 0} where
       go : (room t : Bool)
           → let p = place_item room i a q in
           flagged_if t p.queue.slots ++ rest
-          ≡ flagged_if (loss_now (some p.fate) t) q.slots ++ (stored_as a (some p.fate) (some (Store i)) t ++ rest)
+          ≡ flagged_if (loss_now (some p.fate) t) q.slots ++ (stored_as a (some p.fate) (some (Ok i)) t ++ rest)
       go true true = rw flag_behind (append_assoc q.slots (slot true ∷ []) rest)
       go true false = append_assoc q.slots (slot false ∷ []) rest
       go false true = rw flag_twice
@@ -77,17 +77,17 @@ module _ {A : Type 0} where
   rejoin x u v k w y p q = rw (append_assoc, p, ← append_assoc x k w, q)
 
   -- nothing is lost next from an empty queue with room
-  no_loss_placing : (d : ℕ) (a : A) (r : Ruling) (q : Queue A) (t : Bool) → q.slots ≡ [] → 0 < d → ((place d a r q).queue.slots ≡ [] → t ≡ false)
+  no_loss_placing : (d : ℕ) (a : A) (r : Result Item Why) (q : Queue A) (t : Bool) → q.slots ≡ [] → 0 < d → ((place d a r q).queue.slots ≡ [] → t ≡ false)
       → loss_now (some (place d a r q).fate) t ≡ false
-  no_loss_placing d a (StoreNothing w) q t e l ih = ih e
-  no_loss_placing d a (Store i) q t e l ih = let r : ltb (length q.slots) d ≡ true = rw e (lt-ltb 0 d l) in rw r
+  no_loss_placing d a (Err w) q t e l ih = ih e
+  no_loss_placing d a (Ok i) q t e l ih = let r : ltb (length q.slots) d ≡ true = rw e (lt-ltb 0 d l) in rw r
 
   -- the loss count behind an arrival, where k more are lost later
-  count_placing : (d : ℕ) (a : A) (r : Ruling) (q : Queue A) (k : ℕ)
+  count_placing : (d : ℕ) (a : A) (r : Result Item Why) (q : Queue A) (k : ℕ)
       → let p = place d a r q in
       min (p.queue.losses + k) 65535 ≡ min (q.losses + (lost_one (some p.fate) + k)) 65535
-  count_placing d a (StoreNothing w) q k = omega arith
-  count_placing d a (Store i) q k = go (ltb (length q.slots) d)
+  count_placing d a (Err w) q k = omega arith
+  count_placing d a (Ok i) q k = go (ltb (length q.slots) d)
     where
       go : (room : Bool)
           → let p = place_item room i a q in

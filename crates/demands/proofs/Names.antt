@@ -6,7 +6,7 @@ use mathlib.Core.Option.{Option, none, some}
 use Prim.Native.Nat.{ℕ, zero, suc, min}
 use lib.Dec.{ltb}
 use lib.ListN.{length, take, drop, get_or, set, length-map}
-use Rattle.std.specs.Prelude.{if◌then◌else◌}
+use Rattle.std.specs.Prelude.{if◌then◌else◌, Result, Ok, Err}
 use Rattle.paper.specs.Given.{Given, given, refused}
 use Rattle.paper.specs.Settings.{Size, bad_field}
 use Rattle.paper.specs.Arrival
@@ -16,11 +16,10 @@ use Rattle.paper.specs.Card.{Card, fresh_card, Call, on, pick, at, ready, round,
 use Rattle.paper.specs.Run.{Named, run, Seen, seen, nameless}
 use Rattle.paper.specs.declared.Item.{Item}
 use Rattle.paper.specs.declared.Outcome.{Outcome}
-use Rattle.paper.specs.declared.Ruling.{Ruling}
-use Rattle.paper.specs.declared.Ruling.TheVariants.{Store, StoreNothing}
 use Rattle.paper.specs.declared.Fate.TheVariants.{Stored, Lost}
 use Rattle.paper.specs.declared.Refusal.TheVariants.{BadChannel, BadKind, TooMany, NoRoom}
 use Rattle.paper.specs.declared.Answer.TheVariants.{Fated}
+use Rattle.paper.specs.declared.Why.{Why}
 use Rattle.demands.specs.Demands.{NamesUnseen}
 
 -- LISTS
@@ -77,9 +76,9 @@ module _ {A B : Type 0} (f : A → B) where
   re_flag (x ∷ []) = refl
   re_flag (x ∷ y ∷ l) = ap (λ (r : List (Slot B)). re_slot x ∷ r) (re_flag (y ∷ l))
 
-  re_place : (d : ℕ) (a : A) (r : Ruling) (q : Queue A) → place d (f a) r (re_queue q) ≡ re_placed (place d a r q)
-  re_place d a (StoreNothing w) q = refl
-  re_place d a (Store i) q = rw length-map (go (ltb (length q.slots) d))
+  re_place : (d : ℕ) (a : A) (r : Result Item Why) (q : Queue A) → place d (f a) r (re_queue q) ≡ re_placed (place d a r q)
+  re_place d a (Err w) q = refl
+  re_place d a (Ok i) q = rw length-map (go (ltb (length q.slots) d))
     where
       go : (room : Bool) → place_item room i (f a) (re_queue q) ≡ re_placed (place_item room i a q)
       go true = ap (λ (l : List (Slot B)). record { fate = Stored; queue = record { slots = l; losses = q.losses } }) (sym (map-append re_slot q.slots _))

@@ -7,9 +7,10 @@ use native.Mathlib.Omega.{arith}
 use lib.Dec.{ltb}
 use lib.ListN.{length, length-append, length-drop}
 use borrow.Author.Tests.{ltb-true}
+use Rattle.std.specs.Prelude.{Result, Ok, Err}
 use Rattle.paper.specs.Queue.{Slot, Queue, flag_newest, place_item, place, removed}
-use Rattle.paper.specs.declared.Ruling.{Ruling}
-use Rattle.paper.specs.declared.Ruling.TheVariants.{Store, StoreNothing}
+use Rattle.paper.specs.declared.Item.{Item}
+use Rattle.paper.specs.declared.Why.{Why}
 
 module _ {A : Type 0} where
   pub length-flag_newest : (l : List (Slot A)) → length (flag_newest l) ≡ length l
@@ -21,9 +22,9 @@ module _ {A : Type 0} where
     pub waiting : length q.slots ≤ depth
     pub losses : q.losses ≤ 65535
 
-  pub placed_fits : (depth : ℕ) (a : A) (r : Ruling) (q : Queue A) → Fits depth q → Fits depth (place depth a r q).queue
-  placed_fits depth a (StoreNothing w) q b = b
-  placed_fits depth a (Store i) q b = go (ltb (length q.slots) depth) refl
+  pub placed_fits : (depth : ℕ) (a : A) (r : Result Item Why) (q : Queue A) → Fits depth q → Fits depth (place depth a r q).queue
+  placed_fits depth a (Err w) q b = b
+  placed_fits depth a (Ok i) q b = go (ltb (length q.slots) depth) refl
     where
       go : (room : Bool) → ltb (length q.slots) depth ≡ room → Fits depth (place_item room i a q).queue
       go true e = record { waiting = simp length-append (omega (arith, ltb-true)); losses = b.losses }

@@ -4,9 +4,11 @@ use mathlib.Core.Bool.{true, false}
 use mathlib.Core.List.{List, [], ◌∷◌}
 use mathlib.Core.Option.{Option, none, some}
 use Prim.Native.Nat.{ℕ}
+use Rattle.std.specs.Prelude.{Result}
 use Rattle.paper.specs.Queue.{Queue, place, oldest, removed, items_of}
 use Rattle.paper.specs.Stream.{images}
-use Rattle.paper.specs.declared.Ruling.{Ruling}
+use Rattle.paper.specs.declared.Item.{Item}
+use Rattle.paper.specs.declared.Why.{Why}
 use Rattle.demands.specs.History.{QueueEntry}
 
 abbrev pub empty_queue : {A : Type 0} → Queue A
@@ -18,7 +20,7 @@ ReadRule A = Queue A → (asked told : ℕ) → (bytes : List ℕ) → Type 0
 
 -- what one call does to a queue: an arrival's ruling is placed; so many are taken off, as the rule allows; it is made fresh; it is left alone
 pub data QueueStep {A : Type 0} (depth : ℕ) (Rule : ReadRule A) (q : Queue A) : QueueEntry A → Queue A → Type 0 where
-  placed : (a : A) (r : Ruling)
+  placed : (a : A) (r : Result Item Why)
       → QueueStep depth Rule q
       (record { name = a; ruling = some r; fate = some (place depth a r q).fate; asked = 0; handed = []; bytes = []; reset = false })
       (place depth a r q).queue
@@ -28,7 +30,7 @@ pub data QueueStep {A : Type 0} (depth : ℕ) (Rule : ReadRule A) (q : Queue A) 
       (removed told q)
   renewed : (a : A)
       → QueueStep depth Rule q (record { name = a; ruling = none; fate = none; asked = 0; handed = []; bytes = []; reset = true }) empty_queue
-  left : (a : A) (r : Option Ruling)
+  left : (a : A) (r : Option (Result Item Why))
       → QueueStep depth Rule q (record { name = a; ruling = r; fate = none; asked = 0; handed = []; bytes = []; reset = false }) q
 
 -- a history, from one queue to another

@@ -7,6 +7,7 @@ use mathlib.Core.Option.{Option, none, some, some-ne-none}
 use Prim.Native.Nat.{ℕ, zero, suc}
 use lib.Dec.{eqb, ltb}
 use lib.ListN.{length, take, drop}
+use Rattle.std.specs.Prelude.{Result}
 use Rattle.paper.specs.Arrival.{marking, good_item}
 use Rattle.paper.specs.Queue.{Slot, Queue, place_item, place, flag_newest, items_of}
 use Rattle.paper.specs.Stream.{images}
@@ -15,7 +16,7 @@ use Rattle.paper.specs.Run.{nameless}
 use Rattle.paper.specs.declared.Settings.{Settings}
 use Rattle.paper.specs.declared.Item.{Item}
 use Rattle.paper.specs.declared.Item.TheVariants.{Plain}
-use Rattle.paper.specs.declared.Ruling.{Ruling}
+use Rattle.paper.specs.declared.Why.{Why}
 use Rattle.demands.specs.History.{request, Entry, Marking, QueueEntry, queue_history, handed, bytes_found, history}
 use Rattle.demands.specs.Demands.{ReadBack}
 use Rattle.demands.proofs.Choices.{chosen}
@@ -33,7 +34,7 @@ good_markable : (s : Settings) → marking s ≡ true → (b : ℕ) → Markable
 unfolding good_item
 good_markable s m b = rw m (chosen Markable (eqb b 0xFF) (λ _. refl) (plain_markable b))
 
-abbrev IfRuled : Option Ruling → Type 0
+abbrev IfRuled : Option (Result Item Why) → Type 0
 IfRuled none = Unit {0}
 IfRuled (some r) = Fit Markable r
 
@@ -64,7 +65,7 @@ module _ {A : Type 0} where
   fair_flag (x ∷ []) (cons m p) = cons m p
   fair_flag (x ∷ y ∷ l) (cons m p) = cons m (fair_flag (y ∷ l) p)
 
-  fair_place : (d : ℕ) (a : A) {r : Ruling} (q : Queue A) → Fit Markable r → Fair q.slots → Fair (place d a r q).queue.slots
+  fair_place : (d : ℕ) (a : A) {r : Result Item Why} (q : Queue A) → Fit Markable r → Fair q.slots → Fair (place d a r q).queue.slots
   fair_place d a q leaves p = p
   fair_place d a q (stores {i = i} m) p = go (ltb (length q.slots) d)
     where

@@ -11,11 +11,12 @@ use lib.Dec.{ltb}
 use lib.ListN.{length, take, drop, length-append, length-drop, length-map, take-append-drop}
 use lib.Seq.{take-add, drop-drop, take-nil, drop-nil}
 use borrow.Author.Tests.{ltb-true, ltb-false}
+use Rattle.std.specs.Prelude.{Result, Ok, Err}
 use Rattle.paper.specs.Queue.{Slot, Queue, Placed, flag_newest, place_item, place, oldest, removed, names_of}
-use Rattle.paper.specs.declared.Ruling.{Ruling}
-use Rattle.paper.specs.declared.Ruling.TheVariants.{Store, StoreNothing}
 use Rattle.paper.specs.declared.Fate.{Fate}
 use Rattle.paper.specs.declared.Fate.TheVariants.{Stored}
+use Rattle.paper.specs.declared.Item.{Item}
+use Rattle.paper.specs.declared.Why.{Why}
 use Rattle.demands.specs.History.{QueueEntry, NoReset, counts, tail, between, Before, befores, Within, empty, skip, keep, Each, nil, cons}
 use Rattle.demands.proofs.Placing.{length-flag_newest}
 use Rattle.demands.proofs.QueueRuns.{empty_queue, placed, taken, renewed, left, QueueRun, ended, met, Full}
@@ -67,10 +68,10 @@ module _ {A : Type 0} where
 -- a ruling, and the name of what it may store
 pub record Ruled (A : Type 0) : Type 0 where
   pub name : A
-  pub ruling : Ruling
+  pub ruling : Result Item Why
 
 module _ {A : Type 0} where
-  abbrev pub ruled_at : A → Option Fate → Option Ruling → List (Ruled A)
+  abbrev pub ruled_at : A → Option Fate → Option (Result Item Why) → List (Ruled A)
   ruled_at a none r = []
   ruled_at a (some f) none = []
   ruled_at a (some f) (some r) = record { name = a; ruling = r } ∷ []
@@ -151,9 +152,9 @@ module _ {A : Type 0} where
     ahead_read g h p q m n l a =
         record { within = simp (append_assoc, ← map-append, take-append-drop) a.within; room = simp length-drop (omega (arith, a.room)) }
 
-    ahead_place : (g h : List A) (p q : Queue A) (x : A) (r : Ruling) → Ahead d e g p h q → BothPlaced d e g h (place d x r p) (place e x r q)
-    ahead_place g h p q x (StoreNothing w) a = record { ahead = a; accepts = λ f. f }
-    ahead_place g h p q x (Store i) a = go (ltb (length p.slots) d) (ltb (length q.slots) e) refl refl
+    ahead_place : (g h : List A) (p q : Queue A) (x : A) (r : Result Item Why) → Ahead d e g p h q → BothPlaced d e g h (place d x r p) (place e x r q)
+    ahead_place g h p q x (Err w) a = record { ahead = a; accepts = λ f. f }
+    ahead_place g h p q x (Ok i) a = go (ltb (length p.slots) d) (ltb (length q.slots) e) refl refl
       where
         go : (t u : Bool) → ltb (length p.slots) d ≡ t → ltb (length q.slots) e ≡ u → BothPlaced d e g h (place_item t i x p) (place_item u i x q)
         go true true b c =

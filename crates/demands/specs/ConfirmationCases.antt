@@ -1,5 +1,5 @@
 -- Request n's cases, worked out by hand from its words. To be read with 02 n beside it.
-use Rattle.std.specs.Prelude.{◌≡◌, List, [], ◌∷◌, ◌++◌, map, ℕ, ◌*◌, replicate}
+use Rattle.std.specs.Prelude.{◌≡◌, List, [], ◌∷◌, ◌++◌, map, ℕ, ◌*◌, replicate, Result, Ok, Err}
 use Prim.Native.String.{String}
 use Rattle.paper.specs.Settings.{card_size, fresh_bytes}
 use Rattle.paper.specs.Stream.{Character, good, damaged, readout}
@@ -11,9 +11,9 @@ use Rattle.paper.specs.Text.{text}
 use Rattle.paper.specs.Confirmations.{entries, sum, furthest, LentList, Confirmed, confirm}
 use Rattle.paper.specs.Decimal.{decimal}
 use Rattle.paper.specs.Yield.{yield_of, yield_sheet}
+use Rattle.paper.specs.declared.Refusal.{Refusal}
 use Rattle.paper.specs.declared.Refusal.TheVariants.{BrokenStream, TooManyEntries}
-use Rattle.paper.specs.declared.Listing.{Listing}
-use Rattle.paper.specs.declared.Listing.TheVariants.{Listed, Unlisted}
+use Rattle.paper.specs.declared.Listed.{Listed}
 use Rattle.paper.specs.declared.Fate.TheVariants.{Stored}
 use Rattle.paper.specs.declared.Answer.TheVariants.{Fated, Handed, Done}
 use Rattle.paper.specs.declared.Judgement.{Judgement}
@@ -160,7 +160,11 @@ lends p n l j = record { places = p; numbers = n; litres = l; judgements = j }
 abbrev pub lends_of : (places numbers litres judgements : ℕ) → LentList
 lends_of p n l j = lends (replicate p 9) (replicate n 9) (replicate l 9) (replicate j 9)
 
-abbrev pub gives : Listing → LentList → Confirmed
+-- so many entries, and so many litres
+abbrev pub listed : ℕ → ℕ → Result Listed Refusal
+listed n sum = Ok (record { entries = n; litres = sum })
+
+abbrev pub gives : Result Listed Refusal → LentList → Confirmed
 gives a l = record { answer = a; list = l }
 
 -- five entries: accepted, set aside, accepted, repeated, a gap; 250 and 40 and 5 litres
@@ -182,29 +186,29 @@ five_judgements = 0 ∷ 3 ∷ 0 ∷ 2 ∷ 1 ∷ []
 
 pub record ConfirmCases : Type 0 where
   -- nothing asks for no place
-  pub nothing : confirm [] (lends [] [] [] []) ≡ gives (Listed 0 0) (lends [] [] [] [])
+  pub nothing : confirm [] (lends [] [] [] []) ≡ gives (listed 0 0) (lends [] [] [] [])
   -- exactly enough places; and more of them, differently many, the rest of which stay
-  pub exactly : confirm five (lends_of 5 5 5 5) ≡ gives (Listed 5 295) (lends five_places five_numbers five_litres five_judgements)
+  pub exactly : confirm five (lends_of 5 5 5 5) ≡ gives (listed 5 295) (lends five_places five_numbers five_litres five_judgements)
   pub rest_stays : confirm five (lends_of 6 7 8 9)
-      ≡ gives (Listed 5 295)
+      ≡ gives (listed 5 295)
       (lends (five_places ++ replicate 1 9) (five_numbers ++ replicate 2 9) (five_litres ++ replicate 3 9) (five_judgements ++ replicate 4 9))
   -- "16 if the input has more entries than the lent list has places": the shortest of the four decides, and all is as it was
-  pub one_too_few : confirm five (lends_of 4 4 4 4) ≡ gives (Unlisted TooManyEntries) (lends_of 4 4 4 4)
-  pub few_places : confirm five (lends_of 4 8 8 8) ≡ gives (Unlisted TooManyEntries) (lends_of 4 8 8 8)
-  pub few_numbers : confirm five (lends_of 8 4 8 8) ≡ gives (Unlisted TooManyEntries) (lends_of 8 4 8 8)
-  pub few_litres : confirm five (lends_of 8 8 4 8) ≡ gives (Unlisted TooManyEntries) (lends_of 8 8 4 8)
-  pub few_judgements : confirm five (lends_of 8 8 8 4) ≡ gives (Unlisted TooManyEntries) (lends_of 8 8 8 4)
+  pub one_too_few : confirm five (lends_of 4 4 4 4) ≡ gives (Err TooManyEntries) (lends_of 4 4 4 4)
+  pub few_places : confirm five (lends_of 4 8 8 8) ≡ gives (Err TooManyEntries) (lends_of 4 8 8 8)
+  pub few_numbers : confirm five (lends_of 8 4 8 8) ≡ gives (Err TooManyEntries) (lends_of 8 4 8 8)
+  pub few_litres : confirm five (lends_of 8 8 4 8) ≡ gives (Err TooManyEntries) (lends_of 8 8 4 8)
+  pub few_judgements : confirm five (lends_of 8 8 8 4) ≡ gives (Err TooManyEntries) (lends_of 8 8 8 4)
   -- a confirmation of another form asks for no place
-  pub not_listed : confirm (bytes "0001" ++ bytes "0001 2") (lends_of 1 1 1 1) ≡ gives (Listed 1 2) (lends (6 ∷ []) (1 ∷ []) (2 ∷ []) (0 ∷ []))
+  pub not_listed : confirm (bytes "0001" ++ bytes "0001 2") (lends_of 1 1 1 1) ≡ gives (listed 1 2) (lends (6 ∷ []) (1 ∷ []) (2 ∷ []) (0 ∷ []))
   -- what is counted goes a third as far as 64 bits do: so many characters have no more bytes than these can count
   pub third : 3 * furthest ≡ 18446744073709551615
   -- a broken stream, with the place of its FF in bytes; also where there are too few places: 8 before 16; cut off at the end
   pub broken : confirm (0xFF ∷ 0xFF ∷ bytes "0001 2" ++ 0xFF ∷ 0x41 ∷ bytes "0002 3") (lends_of 2 2 2 2)
-      ≡ gives (Unlisted (BrokenStream 10)) (lends_of 2 2 2 2)
-  pub broken_first : confirm (five ++ 0xFF ∷ 0x41 ∷ []) (lends_of 4 0 1 2) ≡ gives (Unlisted (BrokenStream 46)) (lends_of 4 0 1 2)
-  pub cut : confirm (bytes "0001 2" ++ 0xFF ∷ 0x00 ∷ []) (lends_of 0 0 0 0) ≡ gives (Unlisted (BrokenStream 8)) (lends_of 0 0 0 0)
+      ≡ gives (Err (BrokenStream 10)) (lends_of 2 2 2 2)
+  pub broken_first : confirm (five ++ 0xFF ∷ 0x41 ∷ []) (lends_of 4 0 1 2) ≡ gives (Err (BrokenStream 46)) (lends_of 4 0 1 2)
+  pub cut : confirm (bytes "0001 2" ++ 0xFF ∷ 0x00 ∷ []) (lends_of 0 0 0 0) ≡ gives (Err (BrokenStream 8)) (lends_of 0 0 0 0)
   -- in numbers: 00, how many entries and the sum; "8" and the place; "16"
-  pub numbers : map listing_numbers (Listed 5 295 ∷ Unlisted (BrokenStream 46) ∷ Unlisted TooManyEntries ∷ [])
+  pub numbers : map listing_numbers (listed 5 295 ∷ Err (BrokenStream 46) ∷ Err TooManyEntries ∷ [])
       ≡ (0 ∷ 5 ∷ 295 ∷ []) ∷ (8 ∷ 46 ∷ []) ∷ (16 ∷ []) ∷ []
 
 -- THE SCALE: a scale sends a true FF just before a confirmation
@@ -233,16 +237,16 @@ found_after cs = bytes_found (queue_history (history card_size 0 (nameless cs)))
 pub record TheScale : Type 0 where
   -- written bare, the stream is broken at its first byte, and nothing is listed
   pub bare : Shows (readout with_ff).characters [] 0
-  pub bare_refused : confirm with_ff (lends_of 1 1 1 1) ≡ gives (Unlisted (BrokenStream 0)) (lends_of 1 1 1 1)
+  pub bare_refused : confirm with_ff (lends_of 1 1 1 1) ≡ gives (Err (BrokenStream 0)) (lends_of 1 1 1 1)
   -- through marks, FF FF, it is accepted, once: the FF is the character at place 0
   pub through_marks : Shows (readout (0xFF ∷ with_ff)).characters (accepted 1 1 250 ∷ []) 250
   -- the whole way, with marking on
   pub answers : map (λ (m : Moment Unit). m.gave.answer) (run card_size fresh_card (nameless marked))
       ≡ Done ∷ replicate 6 (Fated Stored) ++ Handed 6 0 7 ∷ replicate 5 (Fated Stored) ++ Handed 5 0 5 ∷ []
   pub found : found_after marked ≡ 0xFF ∷ with_ff
-  pub counted : confirm (found_after marked) (lends_of 1 1 1 1) ≡ gives (Listed 1 250) (lends (1 ∷ []) (1 ∷ []) (250 ∷ []) (0 ∷ []))
+  pub counted : confirm (found_after marked) (lends_of 1 1 1 1) ≡ gives (listed 1 250) (lends (1 ∷ []) (1 ∷ []) (250 ∷ []) (0 ∷ []))
   -- and with marking off
-  pub unmarked : confirm (found_after scale_sends) (lends_of 1 1 1 1) ≡ gives (Unlisted (BrokenStream 0)) (lends_of 1 1 1 1)
+  pub unmarked : confirm (found_after scale_sends) (lends_of 1 1 1 1) ≡ gives (Err (BrokenStream 0)) (lends_of 1 1 1 1)
 
 -- THE YIELD SHEET: text in, text out
 

@@ -1,8 +1,7 @@
 -- WHAT REQUEST n DEMANDS, each as a type: litres are never counted twice running, and never from a damaged character. To be read with 02 n beside it;
 -- what is quoted is the request's.
-use Rattle.std.specs.Prelude.{◌≡◌, true, false, ◌⊎◌, ◌≢◌, ℕ, ◌+◌, ◌≤◌, ◌<◌, length}
+use Rattle.std.specs.Prelude.{◌≡◌, true, false, ◌⊎◌, ◌≢◌, ℕ, ◌+◌, ◌≤◌, ◌<◌, length, Option, Some, None, Ok, Err}
 use mathlib.Core.List.{List, [], ◌∷◌, ◌++◌, map, Memᴰ}
-use Rattle.std.proofs.Math.Option.{none, some}
 use Rattle.paper.specs.Settings.{Size}
 use Rattle.paper.specs.Queue.{items_of}
 use Rattle.paper.specs.Stream.{Character, good, damaged}
@@ -11,11 +10,8 @@ use Rattle.paper.specs.Run.{nameless}
 use Rattle.paper.specs.Decimal.{spelled}
 use Rattle.paper.specs.Confirmations.{confirmation_of, inner, mark, Run, runs, Finding, findings, counted, entries, accepted, sum, countable, said, place_in, LentList, places_of, listed_in, Confirmed, confirm}
 use Rattle.paper.specs.declared.Refusal.TheVariants.{BrokenStream, TooManyEntries}
-use Rattle.paper.specs.declared.Listing.TheVariants.{Listed, Unlisted}
 use Rattle.paper.specs.declared.Confirmation.{Confirmation}
 use Rattle.paper.specs.declared.Judgement.{Judgement}
-use Rattle.paper.specs.declared.LastAccepted.{LastAccepted}
-use Rattle.paper.specs.declared.LastAccepted.TheVariants.{NoneYet, Number}
 use Rattle.paper.specs.declared.Entry.{Entry}
 use Rattle.demands.specs.Marks.{character_of, Accepts, FirstBroken}
 use Rattle.demands.specs.History.{history, after, Marking, NoReset, queue_history, handed, bytes_found, stored}
@@ -71,8 +67,8 @@ pub record Spells (bs : List ℕ) (c : Confirmation) : Type 0 where
   pub says : record { number = spelled 0 number; litres = spelled 0 litres } ≡ c
 
 pub record RightForm (bs : List ℕ) (c : Confirmation) : Type 0 where
-  pub every : Spells bs c → confirmation_of bs ≡ some c
-  pub only : confirmation_of bs ≡ some c → Spells bs c
+  pub every : Spells bs c → confirmation_of bs ≡ Some c
+  pub only : confirmation_of bs ≡ Some c → Spells bs c
 
 -- ENTRIES
 
@@ -84,9 +80,9 @@ finding_in e = record { place = e.place; content = said e.judgement }
 pub record ListedOnce (cs : List Character) : Type 0 where
   pub listed : map finding_in (entries cs) ≡ findings (runs cs)
   pub undamaged : (place : ℕ) (bs : List ℕ) (c : Confirmation) → StandsIn cs (record { place = place; body = map good bs }) → Spells bs c
-      → Memᴰ (record { place = place; content = some c }) (map finding_in (entries cs))
+      → Memᴰ (record { place = place; content = Some c }) (map finding_in (entries cs))
   pub aside : (r : Run) (b : ℕ) → StandsIn cs r → Memᴰ (damaged b) r.body
-      → Memᴰ (record { place = r.place; content = none }) (map finding_in (entries cs))
+      → Memᴰ (record { place = r.place; content = None }) (map finding_in (entries cs))
   pub in_order : Ascending 0 (map place_in (entries cs))
 
 -- an accepted entry is undamaged, of the right form: at its place stands a run of good characters that spell what is counted
@@ -96,15 +92,15 @@ pub record Sound (cs : List Character) (e : Entry) (c : Confirmation) : Type 0 w
   pub form : Spells bytes c
 
 abbrev pub AcceptedSound : List Character → Type 0
-AcceptedSound cs = (e : Entry) (c : Confirmation) → Memᴰ e (entries cs) → counted e.judgement ≡ some c → Sound cs e c
+AcceptedSound cs = (e : Entry) (c : Confirmation) → Memᴰ e (entries cs) → counted e.judgement ≡ Some c → Sound cs e c
 
 -- the number of an accepted one differs from that of the accepted one before it
-abbrev pub NoRepeat : LastAccepted → List Confirmation → Type 0
+abbrev pub NoRepeat : Option ℕ → List Confirmation → Type 0
 NoRepeat last [] = Unit
-NoRepeat last (c ∷ cs) = (last ≢ Number c.number) × NoRepeat (Number c.number) cs
+NoRepeat last (c ∷ cs) = (last ≢ Some c.number) × NoRepeat (Some c.number) cs
 
 abbrev pub NeverTwice : List Character → Type 0
-NeverTwice cs = NoRepeat NoneYet (accepted (entries cs))
+NeverTwice cs = NoRepeat None (accepted (entries cs))
 
 -- litres are never counted twice running, and never from a damaged character; the sum is over the accepted ones by its definition
 pub record NeverCountedTwice (cs : List Character) : Type 0 where
@@ -135,7 +131,7 @@ pub record PlacesAlone (a x y b : List Character) : Type 0 where
 abbrev pub Lists : List ℕ → List Character → Type 0
 Lists s cs =
     (l : LentList) → length (entries cs) ≤ places_of l → countable cs ≡ true
-    → confirm s l ≡ record { answer = Listed (length (entries cs)) (sum cs); list = listed_in (entries cs) l }
+    → confirm s l ≡ record { answer = Ok (record { entries = length (entries cs); litres = sum cs }); list = listed_in (entries cs) l }
 
 -- a channel in mark mode, its reads put together and read back: entries and sum are those of the characters that were handed over and, once all is read,
 -- of the characters that arrived and were stored
@@ -149,11 +145,11 @@ pub record WholeWay (z : Size) (n : ℕ) (cs : List Call) : Type 0 where
 
 -- its three answers, 8 before 16, with the lent list afterwards
 pub data ListGives (s : List ℕ) (l : LentList) : Confirmed → Type 0 where
-  broken : (place : ℕ) → FirstBroken s place → ListGives s l (record { answer = Unlisted (BrokenStream place); list = l })
+  broken : (place : ℕ) → FirstBroken s place → ListGives s l (record { answer = Err (BrokenStream place); list = l })
   too_many : (cs : List Character) → Accepts s cs → (places_of l < length (entries cs)) ⊎ (countable cs ≡ false)
-      → ListGives s l (record { answer = Unlisted TooManyEntries; list = l })
+      → ListGives s l (record { answer = Err TooManyEntries; list = l })
   served : (cs : List Character) → Accepts s cs → length (entries cs) ≤ places_of l → countable cs ≡ true
-      → ListGives s l (record { answer = Listed (length (entries cs)) (sum cs); list = listed_in (entries cs) l })
+      → ListGives s l (record { answer = Ok (record { entries = length (entries cs); litres = sum cs }); list = listed_in (entries cs) l })
 
 -- ALL OF IT
 pub record Confirmations : Type 0 where

@@ -1,5 +1,5 @@
 -- THE DEMANDS, each as a type; proofs/ has a proof of each. To be read with 01 beside it.
-use Rattle.std.specs.Prelude.{◌≡◌, Bool, true, false, not, ◌⊎◌, ◌≢◌, List, [], ◌∷◌, ◌++◌, map, ℕ, ◌+◌, ◌-◌, ◌*◌, ◌≤◌, ◌<◌, min, length, get_or, drop, replicate}
+use Rattle.std.specs.Prelude.{◌≡◌, Bool, true, false, not, ◌⊎◌, ◌≢◌, List, [], ◌∷◌, ◌++◌, map, ℕ, ◌+◌, ◌-◌, ◌*◌, ◌≤◌, ◌<◌, min, length, get_or, drop, replicate, Result, Ok, Err}
 use Rattle.std.proofs.Math.Option.{Option, none, some}
 use Rattle.paper.specs.Settings.{Size, card_size}
 use Rattle.paper.specs.Arrival.{NL, marking, arrival}
@@ -16,10 +16,7 @@ use Rattle.paper.specs.declared.Settings.{Settings}
 use Rattle.paper.specs.declared.Flags.{Flags}
 use Rattle.paper.specs.declared.Item.{Item}
 use Rattle.paper.specs.declared.Why.{Why}
-use Rattle.paper.specs.declared.Ruling.{Ruling}
-use Rattle.paper.specs.declared.Ruling.TheVariants.{Store, StoreNothing}
 use Rattle.paper.specs.declared.Refusal.TheVariants.{BrokenStream, ShortOutput}
-use Rattle.paper.specs.declared.Reading.TheVariants.{Items, Unread}
 use Rattle.paper.specs.declared.Fate.{Fate}
 use Rattle.paper.specs.declared.Fate.TheVariants.{Stored, Nothing, Lost}
 use Rattle.paper.specs.declared.Answer.TheVariants.{Fated, Handed, Took, Silent, Sent, Shown, Picked}
@@ -92,11 +89,11 @@ pub record Reader : Type 0 where
 -- the three answers of the reader's call, "9 before 8", with both buffers afterwards
 pub data ReaderGives (s sorts bytes : List ℕ) : Decoded → Type 0 where
   short : (length sorts < length s) ⊎ (length bytes < length s)
-      → ReaderGives s sorts bytes (record { answer = Unread ShortOutput; sorts = sorts; bytes = bytes })
+      → ReaderGives s sorts bytes (record { answer = Err ShortOutput; sorts = sorts; bytes = bytes })
   broken : length s ≤ length sorts → length s ≤ length bytes → (place : ℕ) → FirstBroken s place
-      → ReaderGives s sorts bytes (record { answer = Unread (BrokenStream place); sorts = sorts; bytes = bytes })
+      → ReaderGives s sorts bytes (record { answer = Err (BrokenStream place); sorts = sorts; bytes = bytes })
   served : length s ≤ length sorts → length s ≤ length bytes → (cs : List Character) → Accepts s cs
-      → ReaderGives s sorts bytes (record { answer = Items (length cs); sorts = front (map sort cs) sorts; bytes = front (map byte cs) bytes })
+      → ReaderGives s sorts bytes (record { answer = Ok (length cs); sorts = front (map sort cs) sorts; bytes = front (map byte cs) bytes })
 
 abbrev pub ReaderCall : Type 0
 ReaderCall = (s sorts bytes : List ℕ) → ReaderGives s sorts bytes (decode s sorts bytes)
@@ -111,10 +108,10 @@ pub record CleanFront (s : List ℕ) : Type 0 where
 -- DEMAND 2: ONE ARRIVAL
 
 -- an arrival's fate, by what the seven steps rule and how many wait: nothing to store, with its reason; "stored"; "lost". There is no other
-pub data FateOf (depth waiting : ℕ) : Ruling → Fate → Type 0 where
-  nothing : (why : Why) → FateOf depth waiting (StoreNothing why) (Nothing why)
-  room : (i : Item) → waiting < depth → FateOf depth waiting (Store i) Stored
-  full : (i : Item) → depth ≤ waiting → FateOf depth waiting (Store i) Lost
+pub data FateOf (depth waiting : ℕ) : Result Item Why → Fate → Type 0 where
+  nothing : (why : Why) → FateOf depth waiting (Err why) (Nothing why)
+  room : (i : Item) → waiting < depth → FateOf depth waiting (Ok i) Stored
+  full : (i : Item) → depth ≤ waiting → FateOf depth waiting (Ok i) Lost
 
 abbrev pub Fates : Type 1
 Fates =
@@ -133,7 +130,7 @@ pub data StandsFor : (kind byte : ℕ) → Character → Type 0 where
 
 abbrev pub Marked : Type 0
 Marked =
-    (s : Settings) (f : Flags) (kind b : ℕ) (i : Item) → kind ≤ 3 → marking s ≡ true → (arrival s f kind b).ruling ≡ Store i
+    (s : Settings) (f : Flags) (kind b : ℕ) (i : Item) → kind ≤ 3 → marking s ≡ true → (arrival s f kind b).ruling ≡ Ok i
     → StandsFor kind b (character_of i)
 
 -- DEMAND 2: WHOLE CALL SEQUENCES

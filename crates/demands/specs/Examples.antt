@@ -1,5 +1,5 @@
 -- 01's examples, and others worked out by hand from its sentences. To be read with 01 beside it.
-use Rattle.std.specs.Prelude.{◌≡◌, true, false, List, [], ◌∷◌, ◌++◌, map, ℕ, ◌+◌, ◌-◌, set, take, drop, replicate}
+use Rattle.std.specs.Prelude.{◌≡◌, true, false, List, [], ◌∷◌, ◌++◌, map, ℕ, ◌+◌, ◌-◌, set, take, drop, replicate, Ok, Err}
 use Rattle.std.proofs.Math.Option.{Option, none, some}
 use Prim.Native.String.{String}
 use Rattle.paper.specs.Settings.{card_size, fresh_bytes, bad_field}
@@ -11,7 +11,6 @@ use Rattle.paper.specs.Run.{Named, end, nameless}
 use Rattle.paper.specs.Numbers.{refusal_numbers, numbers}
 use Rattle.paper.specs.Frames.{newline, program}
 use Rattle.paper.specs.declared.Refusal.TheVariants.{BadChannel, BadKind, TooMany, NoRoom, BadField, BadSpecial, SpecialWaits, BrokenStream, ShortOutput, BadCts, BadLine}
-use Rattle.paper.specs.declared.Reading.TheVariants.{Items, Unread}
 use Rattle.paper.specs.declared.Answer.{Answer}
 use Rattle.paper.specs.declared.Answer.TheVariants.{Refused, Handed, Shown}
 use Rattle.paper.specs.Text.{text}
@@ -231,16 +230,16 @@ pub record ReadCases : Type 0 where
 -- what is read, with both buffers afterwards: nothing; a whole stream, into longer buffers; an FF before 01; one cut off; FF 00 cut off; and a broken
 -- stream with an output that is too short, where 9 comes before 8
 pub record ReaderCases : Type 0 where
-  pub nothing : decode [] (7 ∷ []) [] ≡ record { answer = Items 0; sorts = 7 ∷ []; bytes = [] }
+  pub nothing : decode [] (7 ∷ []) [] ≡ record { answer = Ok 0; sorts = 7 ∷ []; bytes = [] }
   pub whole : decode (0x41 ∷ 0xFF ∷ 0xFF ∷ 0xFF ∷ 0x00 ∷ 0x42 ∷ []) (replicate 6 9) (replicate 7 8)
-      ≡ record { answer = Items 3; sorts = 0 ∷ 0 ∷ 1 ∷ 9 ∷ 9 ∷ 9 ∷ []; bytes = 0x41 ∷ 0xFF ∷ 0x42 ∷ 8 ∷ 8 ∷ 8 ∷ 8 ∷ [] }
+      ≡ record { answer = Ok 3; sorts = 0 ∷ 0 ∷ 1 ∷ 9 ∷ 9 ∷ 9 ∷ []; bytes = 0x41 ∷ 0xFF ∷ 0x42 ∷ 8 ∷ 8 ∷ 8 ∷ 8 ∷ [] }
   pub broken : decode (0x41 ∷ 0xFF ∷ 0x01 ∷ 0xFF ∷ []) (replicate 4 9) (replicate 4 8)
-      ≡ record { answer = Unread (BrokenStream 1); sorts = replicate 4 9; bytes = replicate 4 8 }
-  pub cut : decode (0xFF ∷ []) (9 ∷ []) (8 ∷ []) ≡ record { answer = Unread (BrokenStream 0); sorts = 9 ∷ []; bytes = 8 ∷ [] }
+      ≡ record { answer = Err (BrokenStream 1); sorts = replicate 4 9; bytes = replicate 4 8 }
+  pub cut : decode (0xFF ∷ []) (9 ∷ []) (8 ∷ []) ≡ record { answer = Err (BrokenStream 0); sorts = 9 ∷ []; bytes = 8 ∷ [] }
   pub cut_later : decode (0x41 ∷ 0xFF ∷ 0x00 ∷ []) (replicate 3 9) (replicate 3 8)
-      ≡ record { answer = Unread (BrokenStream 1); sorts = replicate 3 9; bytes = replicate 3 8 }
+      ≡ record { answer = Err (BrokenStream 1); sorts = replicate 3 9; bytes = replicate 3 8 }
   pub short : decode (0x41 ∷ 0xFF ∷ 0x01 ∷ []) (replicate 3 9) (replicate 2 8)
-      ≡ record { answer = Unread ShortOutput; sorts = replicate 3 9; bytes = replicate 2 8 }
+      ≡ record { answer = Err ShortOutput; sorts = replicate 3 9; bytes = replicate 2 8 }
   pub front : clean_front (0x41 ∷ 0x42 ∷ 0xFF ∷ 0x43 ∷ []) ≡ 0x41 ∷ 0x42 ∷ []
 
 -- TRACES

@@ -1,5 +1,5 @@
 -- The words of the demands, read off a run: what one port was asked and answered, and what that was to its receive queue and to its transmitter.
-use Rattle.std.specs.Prelude.{◌≡◌, Bool, true, false, ◌&&◌, ◌≢◌, List, [], ◌∷◌, ◌++◌, map, ℕ, ◌+◌, eqb, ltb, length, get_or, take, drop, if◌then◌else◌}
+use Rattle.std.specs.Prelude.{◌≡◌, Bool, true, false, ◌&&◌, ◌≢◌, List, [], ◌∷◌, ◌++◌, map, ℕ, ◌+◌, eqb, ltb, length, get_or, take, drop, if◌then◌else◌, Result, Ok, Err}
 use Rattle.std.proofs.Math.Option.{Option, none, some}
 use Rattle.paper.specs.Given.{Given}
 use Rattle.paper.specs.Arrival.{arrival, marking, CR, NL}
@@ -11,12 +11,12 @@ use Rattle.paper.specs.Settings.{Size}
 use Rattle.paper.specs.Card.{fresh_card, Call, on, pick, at}
 use Rattle.paper.specs.Run.{Named, Moment, run, end}
 use Rattle.paper.specs.declared.Settings.{Settings}
-use Rattle.paper.specs.declared.Ruling.{Ruling}
-use Rattle.paper.specs.declared.Ruling.TheVariants.{Store, StoreNothing}
 use Rattle.paper.specs.declared.Fate.{Fate}
 use Rattle.paper.specs.declared.Fate.TheVariants.{Stored, Nothing, Lost}
 use Rattle.paper.specs.declared.Answer.{Answer}
 use Rattle.paper.specs.declared.Answer.TheVariants as answers
+use Rattle.paper.specs.declared.Item.{Item}
+use Rattle.paper.specs.declared.Why.{Why}
 
 -- WHAT AN ANSWER SAYS: that the call was refused; an arrival's fate; how many characters a read handed over, and in how many bytes
 pub record Report : Type 0 where
@@ -46,7 +46,7 @@ is_refused a = (report a).refused
 
 -- WHAT A CALL ASKS of a receive queue: to place what the seven steps rule; to hand over so many characters; to be fresh again
 pub record Request : Type 0 where
-  pub ruling : Option Ruling
+  pub ruling : Option (Result Item Why)
   pub characters : ℕ
   pub reset : Bool
 
@@ -121,7 +121,7 @@ gathered part (e ∷ es) = part e ++ gathered part es
 pub record QueueEntry (A : Type 0) : Type 0 where
   -- of an arrival: the name of what it may store, what the seven steps rule, and the fate that was told
   pub name : A
-  pub ruling : Option Ruling
+  pub ruling : Option (Result Item Why)
   pub fate : Option Fate
   -- of a read: how many characters were asked for, what was handed over, and the bytes that the host finds in its buffer
   pub asked : ℕ
@@ -184,11 +184,11 @@ module _ {A : Type 0} where
   loss_next (e ∷ es) = loss_now e.fate (loss_next es)
 
   -- what the arrivals with fate 0 stored, in order, each flagged if a loss happened while it was the newest
-  abbrev pub stored_as : A → Option Fate → Option Ruling → (over : Bool) → List (Slot A)
+  abbrev pub stored_as : A → Option Fate → Option (Result Item Why) → (over : Bool) → List (Slot A)
   stored_as a none r over = []
   stored_as a (some Stored) none over = []
-  stored_as a (some Stored) (some (Store i)) over = record { item = i; over = over; name = a } ∷ []
-  stored_as a (some Stored) (some (StoreNothing why)) over = []
+  stored_as a (some Stored) (some (Ok i)) over = record { item = i; over = over; name = a } ∷ []
+  stored_as a (some Stored) (some (Err why)) over = []
   stored_as a (some (Nothing why)) r over = []
   stored_as a (some Lost) r over = []
 

@@ -7,7 +7,9 @@
 ghost use Rattle.std.specs.Prelude.{◌≤◌, length};
 ghost use Rattle.tabling.specs.Lines.{longest_pair, longest_table};
 
+use page::Page;
 use standard::{read_word, word_count, write_text};
+use std::env::Env;
 
 // The longest word that Linux hands to a program on x86-64 has 131071 bytes.
 const WORD: usize = 131072;
@@ -25,36 +27,41 @@ fn say_usage(rt: &impl Eprint) {
 fn write_table(rt: &(impl Print + Eprint), out: &mut [u8])
     requires { longest_table ≤ length out.old }
 {
-    let put = tabling::put_table(out, 0);
-    write_text(rt, &out[..put]);
+    let mut page = Page::on(out);
+    tabling::put_table(&mut page);
+    write_text(rt, page.text());
 }
 
 // The line of a pair of words, in the same way.
 fn write_pair(rt: &(impl Print + Eprint), first: &[u8], second: &[u8], out: &mut [u8])
     requires { longest_pair ≤ length out.old }
 {
-    let put = tabling::put_pair(out, 0, first, second);
-    write_text(rt, &out[..put]);
+    let mut page = Page::on(out);
+    tabling::put_pair(&mut page, first, second);
+    write_text(rt, page.text());
 }
 
-fn main(rt: HostRuntime) {
-    let mut out = [0u8; tabling::LONGEST_TABLE];
-    let count = word_count(&rt);
-    if count < 2 {
-        write_table(&rt, &mut out);
-        return;
-    }
-    if count != 3 {
-        say_usage(&rt);
-        return;
-    }
+// Both words, and their line.
+fn answer_pair(rt: &(impl Env + Print + Eprint), out: &mut [u8])
+    requires { longest_pair ≤ length out.old }
+{
     let mut first = [0u8; WORD];
-    let Some(first_long) = read_word(&rt, "FIRST", 1, &mut first) else {
+    let Some(first_long) = read_word(rt, "FIRST", 1, &mut first) else {
         return;
     };
     let mut second = [0u8; WORD];
-    let Some(second_long) = read_word(&rt, "SECOND", 2, &mut second) else {
+    let Some(second_long) = read_word(rt, "SECOND", 2, &mut second) else {
         return;
     };
-    write_pair(&rt, &first[..first_long], &second[..second_long], &mut out);
+    write_pair(rt, &first[..first_long], &second[..second_long], out);
+}
+
+// The program's own name is counted too.
+fn main(rt: HostRuntime) {
+    let mut out = [0u8; tabling::LONGEST_TABLE];
+    match word_count(&rt) {
+        0 | 1 => write_table(&rt, &mut out),
+        3 => answer_pair(&rt, &mut out),
+        _ => say_usage(&rt),
+    }
 }

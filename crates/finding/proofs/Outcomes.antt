@@ -1,32 +1,29 @@
 -- What a search comes to is what the definitions give.
-use mathlib.Core.Path.{◌≡◌, refl, sym, ap, ap₂, ◌∙◌}
-use mathlib.Core.Bool.{Bool, true, false, true≢false}
+use mathlib.Core.Path.{◌≡◌, refl, sym, ap, ap₂, subst, ◌∙◌}
+use mathlib.Core.Bool.{Bool, true, false}
 use mathlib.Core.List.{List, [], ◌∷◌, ◌++◌, append_assoc, append-nil}
-use mathlib.Core.Option.{Option, none, some}
 use Prim.Native.Nat.{ℕ, ◌+◌}
 use native.Mathlib.Omega.{arith}
 use lib.Dec.{eqb}
 use lib.ListN.{length, length-append}
 use borrow.Author.Tests.{eq-eqb, ne_eqb}
-use Rattle.std.specs.Prelude.{if◌then◌else◌}
+use Rattle.std.specs.Prelude.{if◌then◌else◌, Option, Some, None, Result, Ok, Err}
 use Rattle.paper.specs.Stream.{Character, good, damaged, Readout, Open, nothing, mark, mark_zero, first, stop, read_on, readout}
-use Rattle.paper.specs.Confirmations.{Mark, start, finish, inner, Finding, entries, sum, countable, accepted, litres}
-use Rattle.paper.specs.Confirmations as runs
+use Rattle.paper.specs.Confirmations.{ahead, entries, sum, countable, accepted, litres}
 use Rattle.paper.specs.Yield.{counted_front}
 use Rattle.paper.specs.declared.Entry.{Entry}
-use Rattle.finding.specs.Finder.{closing, close, step_at, step, counts, advance, told, tells, after}
+use Rattle.finding.specs.Finder.{step, counts, advance, tells, after}
 use Rattle.finding.specs.Finder as finder
-use Rattle.finding.specs.Search.{beginning, waits, passed, pass, taken_at, Ending, ended, broken, full, Outcome, ends, goes_on, outcome, ended_by, ending_of, Searches}
+use Rattle.finding.specs.Search as search
+use Rattle.finding.specs.Search.{beginning, waits, passed, pass, taken_at, take, Ending, ended, broken, full, Outcome, ends, told, goes_on, outcome, ended_by, ending_of, Searches}
 use Rattle.finding.specs.declared.Finder.{Finder}
-use Rattle.finding.specs.declared.Found.{Found}
-use Rattle.finding.specs.declared.Found.TheVariants as found
-use Rattle.finding.specs.declared.Step.{Step}
 use Rattle.finding.specs.declared.PartRead.{PartRead}
 use Rattle.finding.specs.declared.PartRead.TheVariants as parts
 use Rattle.finding.specs.declared.Search.{Search}
-use Rattle.finding.specs.declared.Told.TheVariants as told-as
+use Rattle.finding.specs.declared.Stop.{Stop}
+use Rattle.finding.specs.declared.Stop.TheVariants.{Broken, Full}
 use Rattle.finding.specs.declared.Taken.{Taken}
-use Rattle.finding.proofs.Searching.{counts_one, is_full, taken}
+use Rattle.finding.proofs.Searching.{counts_one}
 use Rattle.finding.proofs.Finds.{tells_due, tells_pieces, after_pieces, sum_after}
 
 -- THE FINDER'S COUNTS are those of the characters that it passed
@@ -47,20 +44,6 @@ counts_after cs =
 
 after_one : (cs : List Character) (c : Character) → after finder.beginning (cs ++ c ∷ []) ≡ (step (after finder.beginning cs) c).finder
 after_one cs c = after_pieces finder.beginning cs (c ∷ [])
-
--- only a count that goes no further is told as such
-quiet_by : (f : Finder) (o : Option Finding) → is_full (close f o).found ≡ false
-quiet_by f none = refl
-quiet_by f (some g) = refl
-
-quiet_at : (m : Mark) (f : Finder) (c : Character) → is_full (step_at m f c).found ≡ false
-quiet_at start f c = refl
-quiet_at finish f c = quiet_by f (closing f.run)
-quiet_at inner f c = refl
-
-never_full : (f : Finder) (c : Character) → is_full (step f c).found ≡ false
-unfolding step
-never_full f c = quiet_at (runs.mark c) f c
 
 -- FROM A FRONT ON: what is still to come of a stream, of `whole` bytes, whose characters are those of the front p and cs, and rest behind them
 record Comes (p cs : List Character) (rest : List ℕ) (whole : ℕ) (o : Outcome) : Type 0 where
@@ -83,14 +66,19 @@ chosen_front p c cs t e = ap (λ (u : Bool). if u then counted_front (p ++ c ∷
 longer : (p : List Character) (c : Character) (cs : List Character) → length (p ++ c ∷ []) + length cs ≡ length p + length (c ∷ cs)
 longer p c cs = rw length-append (omega arith)
 
+ahead_front : (o : Option Entry) (es : List Entry) → ahead o es ≡ ahead o [] ++ es
+ahead_front None es = refl
+ahead_front (Some e) es = refl
+
 comes_more : (p : List Character) (c : Character) (cs : List Character) (rest : List ℕ) (whole : ℕ) (x y : Outcome)
     → countable (p ++ c ∷ []) ≡ true → Comes (p ++ c ∷ []) cs rest whole x
-    → told (step (after finder.beginning p) c).found [] ++ x.entries ≡ y.entries → x.ending ≡ y.ending → Comes p (c ∷ cs) rest whole y
+    → ahead (step (after finder.beginning p) c).entry x.entries ≡ y.entries → x.ending ≡ y.ending → Comes p (c ∷ cs) rest whole y
 comes_more p c cs rest whole x y e w more same =
+    let o = (step (after finder.beginning p) c).entry in
     record {
       entries =
-          ap (λ (es : List Entry). tells finder.beginning p ++ es) (sym more)
-          ∙ sym (append_assoc (tells finder.beginning p) (told (step (after finder.beginning p) c).found []) x.entries)
+          ap (λ (es : List Entry). tells finder.beginning p ++ es) (sym more ∙ ahead_front o x.entries)
+          ∙ sym (append_assoc (tells finder.beginning p) (ahead o []) x.entries)
           ∙ ap (λ (es : List Entry). es ++ x.entries) (sym (tells_pieces finder.beginning p (c ∷ [])))
           ∙ w.entries ∙ ap entries (sym (chosen_front p c cs true e));
       ending =
@@ -110,65 +98,41 @@ comes_full p c cs rest whole e =
 
 -- what the finder does with it, by whether it can be counted
 advance_by : (p : List Character) (f : Finder) (c : Character) → f ≡ after finder.beginning p → (t : Bool) → countable (p ++ c ∷ []) ≡ t
-    → advance f c ≡ (if t then step (after finder.beginning p) c else finder.full (after finder.beginning p))
+    → advance f c ≡ (if t then Ok (step (after finder.beginning p) c) else Err (Full (length p)))
 unfolding advance
 advance_by p f c is t e =
-    rw (is, ← after_one p c, counts_after (p ++ c ∷ []), e)
+    let places : (after finder.beginning p).passed ≡ length p = passed_after finder.beginning p ∙ omega arith in
+    rw (is, ← after_one p c, counts_after (p ++ c ∷ []), e, places)
 
 module _ (p : List Character) (c : Character) (cs : List Character) (rest : List ℕ) (whole : ℕ) (s : Search) (width : ℕ) (bs : List ℕ)
     (below : (t : Search) → t.part ≡ parts.Nothing → t.place ≡ s.place + width → t.finder ≡ after finder.beginning (p ++ c ∷ [])
     → Comes (p ++ c ∷ []) cs rest whole (outcome t bs)) where
-  -- where the search stands behind it
-  abbrev on : Finder → Search
-  on f = record { part = parts.Nothing; place = s.place + width; finder = f }
-
-  counted_by : countable (p ++ c ∷ []) ≡ true → (o : Found) → (step (after finder.beginning p) c).found ≡ o
-      → let k = passed s width (step (after finder.beginning p) c).finder o in
-      Comes p (c ∷ cs) rest whole (goes_on k.told (outcome k.search bs))
-  counted_by e found.Nothing h =
-      let x = outcome (on (step (after finder.beginning p) c).finder) bs in
+  pass_by : (t : Bool) → countable (p ++ c ∷ []) ≡ t
+      → Comes
+      p
+      (c ∷ cs)
+      rest
+      whole
+      (goes_on (passed s width (if t then Ok (step (after finder.beginning p) c) else Err (Full (length p)))) (λ u. outcome u bs))
+  pass_by true e =
+      let u = (search.behind s width (step (after finder.beginning p) c)).search in
       comes_more
       p
       c
       cs
       rest
       whole
-      x
-      x
+      (outcome u bs)
+      (told (step (after finder.beginning p) c).entry (outcome u bs))
       e
-      (below (on (step (after finder.beginning p) c).finder) refl refl (sym (after_one p c)))
-      (ap (λ (o : Found). told o [] ++ x.entries) h)
+      (below u refl refl (sym (after_one p c)))
       refl
-  counted_by e (found.One y) h =
-      let x = outcome (on (step (after finder.beginning p) c).finder) bs in
-      comes_more
-      p
-      c
-      cs
-      rest
-      whole
-      x
-      (record { entries = y ∷ x.entries; ending = x.ending })
-      e
-      (below (on (step (after finder.beginning p) c).finder) refl refl (sym (after_one p c)))
-      (ap (λ (o : Found). told o [] ++ x.entries) h)
       refl
-  counted_by e found.Full h = absurd (true≢false (ap is_full (sym h) ∙ never_full (after finder.beginning p) c))
+  pass_by false e = comes_full p c cs rest whole e
 
-  pass_by : s.finder ≡ after finder.beginning p → (t : Bool) → countable (p ++ c ∷ []) ≡ t → (n : Step)
-      → n ≡ (if t then step (after finder.beginning p) c else finder.full (after finder.beginning p))
-      → let k = passed s width n.finder n.found in
-      Comes p (c ∷ cs) rest whole (goes_on k.told (outcome k.search bs))
-  pass_by is true e n h = rw h (counted_by e (step (after finder.beginning p) c).found refl)
-  pass_by is false e n h =
-      let places : s.finder.passed ≡ length p = ap (λ (f : Finder). f.passed) is ∙ passed_after finder.beginning p ∙ omega arith in
-      rw (h, places) (comes_full p c cs rest whole e)
-
-  pass_comes : s.finder ≡ after finder.beginning p
-      → Comes p (c ∷ cs) rest whole (goes_on (pass s width c).told (outcome (pass s width c).search bs))
+  pass_comes : s.finder ≡ after finder.beginning p → Comes p (c ∷ cs) rest whole (goes_on (pass s width c) (λ u. outcome u bs))
   unfolding pass
-  pass_comes is =
-      pass_by is (countable (p ++ c ∷ [])) refl (advance s.finder c) (advance_by p s.finder c is (countable (p ++ c ∷ [])) refl)
+  pass_comes is = rw (advance_by p s.finder c is (countable (p ++ c ∷ [])) refl) (pass_by (countable (p ++ c ∷ [])) refl)
 
 -- ALL BYTES
 
@@ -197,7 +161,7 @@ comes_nil p s parts.MarkZero whole e is w = rw e (comes_to_end p (0xFF ∷ 0x00 
 module _ (b : ℕ) (bs : List ℕ) (below : StillComes bs) (p : List Character) (s : Search) (whole : ℕ) (is : s.finder ≡ after finder.beginning p) where
   -- a whole character of so many bytes, the last of them b
   one_more : (c : Character) (width : ℕ) → whole ≡ s.place + width + length bs
-      → Comes p (c ∷ (read_on nothing bs).characters) (read_on nothing bs).rest whole (goes_on (pass s width c).told (outcome (pass s width c).search bs))
+      → Comes p (c ∷ (read_on nothing bs).characters) (read_on nothing bs).rest whole (goes_on (pass s width c) (λ u. outcome u bs))
   one_more c width w =
       pass_comes
       p
@@ -211,17 +175,17 @@ module _ (b : ℕ) (bs : List ℕ) (below : StillComes bs) (p : List Character) 
       (λ t e l f. below (p ++ c ∷ []) t parts.Nothing whole e f (omega arith))
       is
 
-  abbrev Then : Readout → Taken → Type 0
-  Then r k = Comes p r.characters r.rest whole (goes_on k.told (outcome k.search bs))
+  abbrev Then : Readout → Result Taken Stop → Type 0
+  Then r k = Comes p r.characters r.rest whole (goes_on k (λ u. outcome u bs))
 
   at_nothing : (t : Bool) → whole ≡ s.place + 0 + length (b ∷ bs)
-      → Then (if t then read_on mark bs else first (good b) (read_on nothing bs)) (if t then waits s parts.Mark else pass s 1 (good b))
+      → Then (if t then read_on mark bs else first (good b) (read_on nothing bs)) (if t then Ok (waits s parts.Mark) else pass s 1 (good b))
   at_nothing true w = below p (waits s parts.Mark).search parts.Mark whole refl is (omega arith)
   at_nothing false w = one_more (good b) 1 (omega arith)
 
   at_mark : (t u : Bool) → whole ≡ s.place + 1 + length (b ∷ bs)
       → Then (if t then first (good 0xFF) (read_on nothing bs) else if u then read_on mark_zero bs else stop (0xFF ∷ b ∷ bs))
-      (if t then pass s 2 (good 0xFF) else if u then waits s parts.MarkZero else record { search = s; told = told-as.Broken s.place })
+      (if t then pass s 2 (good 0xFF) else if u then Ok (waits s parts.MarkZero) else Err (Broken s.place))
   at_mark true u w = one_more (good 0xFF) 2 (omega arith)
   at_mark false true w = below p (waits s parts.MarkZero).search parts.MarkZero whole refl is (omega arith)
   at_mark false false w = comes_to_end p (0xFF ∷ b ∷ bs) whole (broken s.place) (ap broken (omega arith))
@@ -233,8 +197,9 @@ module _ (b : ℕ) (bs : List ℕ) (below : StillComes bs) (p : List Character) 
   at_part parts.MarkZero w = one_more (damaged b) 3 (omega arith)
 
 comes : (bs : List ℕ) → StillComes bs
+unfolding take
 comes [] p s part whole e is w = comes_nil p s part whole e is w
-comes (b ∷ bs) p s part whole e is w = rw (← taken part s b e) (at_part b bs (λ p' s' part' whole' e' is' w'. comes bs p' s' part' whole' e' is' w') p s whole is part w)
+comes (b ∷ bs) p s part whole e is w = subst (λ (q : PartRead). Comes p (read_on (open_of part) (b ∷ bs)).characters (read_on (open_of part) (b ∷ bs)).rest whole (goes_on (taken_at q s b) (λ u. outcome u bs))) (sym e) (at_part b bs (λ p' s' part' whole' e' is' w'. comes bs p' s' part' whole' e' is' w') p s whole is part w)
 
 pub searches : (s : List ℕ) → Searches s
 searches s =

@@ -1,8 +1,7 @@
 -- One law for each way through the finder's code.
-use Rattle.std.specs.Prelude.{if◌then◌else◌}
+use Rattle.std.specs.Prelude.{if◌then◌else◌, Option, Some, None, Ok, Err}
 use mathlib.Core.Path.{◌≡◌, refl}
 use mathlib.Core.Bool.{Bool, true, false}
-use mathlib.Core.Option.{none, some}
 use Prim.Native.Nat.{ℕ, zero, suc, ◌+◌, ◌*◌, ◌-◌, ◌≤◌, ◌<◌, min}
 use native.Mathlib.Omega.{arith}
 use lib.Dec.{eqb, ltb}
@@ -10,19 +9,15 @@ use borrow.Author.Tests.{ne_eqb, lt-ltb, le-ltb, le-leb, lt-leb}
 use Rattle.paper.specs.Stream.{Character}
 use Rattle.paper.specs.Decimal.{digit}
 use Rattle.paper.specs.Confirmations.{mark, fits, next, judgement_on, counted, litres_of, furthest}
-use Rattle.finding.specs.Finder.{formed, other_form, form_step, content_in, fresh, grown, grow, closing, quiet, tell, close, step, counts, full, advance}
+use Rattle.finding.specs.Finder.{formed, form_step, content_in, fresh, grow, closing, quiet, tell, close, step, counts, advance}
 use Rattle.finding.specs.Bounds.{character, tens, SoundForm}
 use Rattle.paper.specs.declared.Confirmation.{Confirmation}
 use Rattle.paper.specs.declared.Judgement.TheVariants.{Accepted, Gap, Repeated, Aside}
-use Rattle.paper.specs.declared.LastAccepted.{LastAccepted}
-use Rattle.paper.specs.declared.LastAccepted.TheVariants.{NoneYet, Number}
-use Rattle.paper.specs.declared.Entry.{Entry}
 use Rattle.finding.specs.declared.Form.{Form}
 use Rattle.finding.specs.declared.Begun.{Begun}
-use Rattle.finding.specs.declared.Open.TheVariants.{Outside, Within}
 use Rattle.finding.specs.declared.Finder.{Finder}
-use Rattle.finding.specs.declared.Found.TheVariants.{One}
 use Rattle.finding.specs.declared.Step.{Step}
+use Rattle.finding.specs.declared.Stop.TheVariants.{Full}
 
 -- BOUNDS
 
@@ -43,94 +38,73 @@ module _ (f : Form) (s : SoundForm f) where
   pub number_whole : f.number < 10000
   number_whole = omega (arith, s.number, tens_le (min f.seen 4) 4 (omega arith))
 
-  pub litres_whole : f.seen ≤ 11 → f.litres ≤ 999999
-  litres_whole h = omega (arith, s.litres, tens_le (f.seen - 5) 6 (omega arith))
+  pub litres_whole : f.litres ≤ 999999
+  litres_whole = omega (arith, s.seen, s.litres, tens_le (f.seen - 5) 6 (omega (arith, s.seen)))
 
 -- FORM
 
 module _ (f : Form) (b : ℕ) where
-  pub form_long : 11 ≤ f.seen → other_form ≡ form_step f b
-  unfolding form_step
-  form_long h = rw (le-ltb f.seen 11 h)
-
-  pub form_space : f.seen ≡ 4 → b ≡ 0x20 → formed 5 f.number f.litres ≡ form_step f b
+  pub form_space : f.seen ≡ 4 → b ≡ 0x20 → Some (formed 5 f.number f.litres) ≡ form_step f b
   unfolding form_step fits
   form_space h e = rw (h, e)
 
-  pub form_no_space : f.seen ≡ 4 → (b ≡ 0x20 → ⊥) → other_form ≡ form_step f b
+  pub form_no_space : f.seen ≡ 4 → (b ≡ 0x20 → ⊥) → None ≡ form_step f b
   unfolding form_step fits
   form_no_space h e = rw (h, ne_eqb b 0x20 e)
 
-  not_fit : (t : Bool) → fits f.seen b ≡ false → ltb f.seen 11 ≡ t → other_form ≡ form_step f b
+  not_fit : (t : Bool) → fits f.seen b ≡ false → ltb f.seen 11 ≡ t → None ≡ form_step f b
   unfolding form_step
   not_fit true h e = rw (e, h)
   not_fit false h e = rw e
 
-  pub form_low : (f.seen ≡ 4 → ⊥) → b < 0x30 → other_form ≡ form_step f b
+  pub form_low : (f.seen ≡ 4 → ⊥) → b < 0x30 → None ≡ form_step f b
   unfolding fits digit
   form_low h e = not_fit (ltb f.seen 11) (rw (ne_eqb f.seen 4 h, lt-leb 0x30 b e)) refl
 
-  pub form_high : (f.seen ≡ 4 → ⊥) → 0x39 < b → other_form ≡ form_step f b
+  pub form_high : (f.seen ≡ 4 → ⊥) → 0x39 < b → None ≡ form_step f b
   unfolding fits digit
   form_high h e = not_fit (ltb f.seen 11) (rw (ne_eqb f.seen 4 h, le-leb 0x30 b (omega arith), lt-leb b 0x39 e)) refl
 
-  fit : (f.seen ≡ 4 → ⊥) → 0x30 ≤ b → b ≤ 0x39 → fits f.seen b ≡ true
-  unfolding fits digit
-  fit h e g = rw (ne_eqb f.seen 4 h, le-leb 0x30 b e, le-leb b 0x39 g)
-
-  pub form_number : f.seen < 4 → 0x30 ≤ b → b ≤ 0x39 → formed (f.seen + 1) (10 * f.number + (b - 0x30)) f.litres ≡ form_step f b
+  pub form_long : 11 ≤ f.seen → None ≡ form_step f b
   unfolding form_step
+  form_long h = rw (le-ltb f.seen 11 h)
+
+  pub form_number : f.seen ≤ 3 → 0x30 ≤ b → b ≤ 0x39 → Some (formed (f.seen + 1) (10 * f.number + (b - 0x30)) f.litres) ≡ form_step f b
+  unfolding form_step fits digit
   form_number h e g =
-      rw (lt-ltb f.seen 11 (omega arith), fit (λ z. omega arith) e g, lt-ltb f.seen 4 h, le-ltb 4 f.seen (omega arith))
+      rw (lt-ltb f.seen 11 (omega arith), ne_eqb f.seen 4 (λ z. omega arith), le-leb 0x30 b e, le-leb b 0x39 g, lt-ltb f.seen 4 (omega arith), le-ltb 4 f.seen (omega arith))
 
-  pub form_litres : 4 ≤ f.seen → (f.seen ≡ 4 → ⊥) → f.seen < 11 → 0x30 ≤ b → b ≤ 0x39
-      → formed (f.seen + 1) f.number (10 * f.litres + (b - 0x30)) ≡ form_step f b
-  unfolding form_step
-  form_litres l h k e g =
-      rw (lt-ltb f.seen 11 k, fit h e g, le-ltb f.seen 4 l, lt-ltb 4 f.seen (omega arith))
+  pub form_litres : 5 ≤ f.seen → f.seen ≤ 10 → 0x30 ≤ b → b ≤ 0x39
+      → Some (formed (f.seen + 1) f.number (10 * f.litres + (b - 0x30))) ≡ form_step f b
+  unfolding form_step fits digit
+  form_litres l k e g =
+      rw (lt-ltb f.seen 11 (omega arith), ne_eqb f.seen 4 (λ z. omega arith), le-leb 0x30 b e, le-leb b 0x39 g, le-ltb f.seen 4 (omega arith), lt-ltb 4 f.seen (omega arith))
 
--- RUN
+pub content_none : (o : Option Form) → o ≡ None → None ≡ content_in o
+unfolding content_in
+content_none o e = rw e
 
-pub grown_damaged : (g : Begun) (d : Bool) (b : ℕ) (form : Form) → form ≡ form_step g.form b → g.damaged ≡ true
-    → record { place = g.place; damaged = true; form = form } ≡ grown g (character d b)
-grown_damaged g true b form e h = rw (e, h)
-grown_damaged g false b form e h = rw (e, h)
+module _ (o : Option Form) (f : Form) (is : o ≡ Some f) where
+  pub content_short : f.seen < 6 → None ≡ content_in o
+  unfolding content_in
+  content_short h = rw (is, lt-leb 6 f.seen h)
 
-pub grown_good : (g : Begun) (d : Bool) (b : ℕ) (form : Form) → form ≡ form_step g.form b → g.damaged ≡ false
-    → record { place = g.place; damaged = d; form = form } ≡ grown g (character d b)
-grown_good g true b form e h = rw (e, h)
-grown_good g false b form e h = rw (e, h)
-
-pub told_counted : (f : Finder) (e : Entry) (c : Confirmation) → counted e.judgement ≡ some c
-    → record {
-      finder = record { passed = f.passed + 1; run = Outside; last = Number c.number; sum = f.sum + c.litres };
-      found = One e;
-    } ≡ tell f e
-told_counted f e c h = rw h
-
-pub told_uncounted : (f : Finder) (e : Entry) → counted e.judgement ≡ none
-    → record { finder = record { passed = f.passed + 1; run = Outside; last = f.last; sum = f.sum }; found = One e } ≡ tell f e
-told_uncounted f e h = let zero_more : f.sum + 0 ≡ f.sum = omega arith in rw (h, zero_more)
+  pub content_right : 6 ≤ f.seen → f.seen ≤ 11 → Some (record { number = f.number; litres = f.litres }) ≡ content_in o
+  unfolding content_in
+  content_right h k = rw (is, le-leb 6 f.seen h, le-leb f.seen 11 k)
 
 -- AN ETX
 
 module _ (f : Finder) (g : Begun) where
-  pub close_aside : g.damaged ≡ true → tell f (record { place = g.place; judgement = Aside }) ≡ close f (closing (Within g))
+  pub close_aside : g.damaged ≡ true → tell f (record { place = g.place; judgement = Aside }) ≡ close f (closing (Some g))
   close_aside h = rw h
 
-  pub close_short : g.damaged ≡ false → g.form.seen < 6 → quiet f Outside ≡ close f (closing (Within g))
-  unfolding content_in
-  close_short h e = rw (h, lt-leb 6 g.form.seen e)
+  pub close_unlisted : g.damaged ≡ false → content_in g.form ≡ None → quiet f None ≡ close f (closing (Some g))
+  close_unlisted h e = rw (h, e)
 
-  pub close_long : g.damaged ≡ false → 11 < g.form.seen → quiet f Outside ≡ close f (closing (Within g))
-  unfolding content_in
-  close_long h e = rw (h, le-leb 6 g.form.seen (omega arith), lt-leb g.form.seen 11 e)
-
-  pub close_listed : g.damaged ≡ false → 6 ≤ g.form.seen → g.form.seen ≤ 11
-      → tell f (record { place = g.place; judgement = judgement_on f.last (record { number = g.form.number; litres = g.form.litres }) })
-      ≡ close f (closing (Within g))
-  unfolding content_in
-  close_listed h e k = rw (h, le-leb 6 g.form.seen e, le-leb g.form.seen 11 k)
+  pub close_listed : (c : Confirmation) → g.damaged ≡ false → content_in g.form ≡ Some c
+      → tell f (record { place = g.place; judgement = judgement_on f.last c }) ≡ close f (closing (Some g))
+  close_listed c h e = rw (h, e)
 
 counted_by : (c : Confirmation) (same follows : Bool) → c.litres ≤ 999999
     → litres_of (counted (if same then Repeated c else if follows then Accepted c else Gap c)) ≤ 999999
@@ -138,10 +112,10 @@ counted_by c true follows h = omega arith
 counted_by c false true h = h
 counted_by c false false h = h
 
-pub counted_small : (last : LastAccepted) (c : Confirmation) → c.litres ≤ 999999 → litres_of (counted (judgement_on last c)) ≤ 999999
+pub counted_small : (last : Option ℕ) (c : Confirmation) → c.litres ≤ 999999 → litres_of (counted (judgement_on last c)) ≤ 999999
 unfolding judgement_on
-counted_small NoneYet c h = h
-counted_small (Number n) c h = counted_by c (eqb c.number n) (eqb c.number (next n)) h
+counted_small None c h = h
+counted_small (Some n) c h = counted_by c (eqb c.number n) (eqb c.number (next n)) h
 
 -- A CHARACTER
 
@@ -150,7 +124,7 @@ module _ (f : Finder) (d : Bool) (b : ℕ) where
   unfolding step mark
   step_damaged h = rw h
 
-  pub step_start : d ≡ false → b ≡ 0x02 → quiet f (Within (fresh f.passed)) ≡ step f (character d b)
+  pub step_start : d ≡ false → b ≡ 0x02 → quiet f (Some (fresh f.passed)) ≡ step f (character d b)
   unfolding step mark
   step_start h e = rw (h, e)
 
@@ -165,14 +139,14 @@ module _ (f : Finder) (d : Bool) (b : ℕ) where
 -- WHERE IT STILL COUNTS
 
 module _ (f : Finder) (c : Character) (n : Step) (is : n ≡ step f c) where
-  pub beyond_places : furthest < n.finder.passed → full f ≡ advance f c
+  pub beyond_places : furthest < n.finder.passed → Err (Full f.passed) ≡ advance f c
   unfolding advance counts
   beyond_places h = rw (← is, lt-leb n.finder.passed furthest h)
 
-  pub beyond_litres : n.finder.passed ≤ furthest → furthest < n.finder.sum → full f ≡ advance f c
+  pub beyond_litres : n.finder.passed ≤ furthest → furthest < n.finder.sum → Err (Full f.passed) ≡ advance f c
   unfolding advance counts
   beyond_litres p h = rw (← is, le-leb n.finder.passed furthest p, lt-leb n.finder.sum furthest h)
 
-  pub still_counted : n.finder.passed ≤ furthest → n.finder.sum ≤ furthest → n ≡ advance f c
+  pub still_counted : n.finder.passed ≤ furthest → n.finder.sum ≤ furthest → Ok n ≡ advance f c
   unfolding advance counts
   still_counted p h = rw (← is, le-leb n.finder.passed furthest p, le-leb n.finder.sum furthest h)

@@ -1,5 +1,5 @@
 -- The bounds within which no number of the finder or of the search runs over: shown of the beginning and kept by every step.
-use Rattle.std.specs.Prelude.{Bool, true, false, ℕ, zero, suc, ◌*◌, ◌-◌, ◌≤◌, ◌<◌, min}
+use Rattle.std.specs.Prelude.{Bool, true, false, ℕ, zero, suc, ◌*◌, ◌-◌, ◌≤◌, ◌<◌, min, Option, IfSome, IfOk}
 use Rattle.paper.specs.Stream.{Character, good, damaged}
 use Rattle.paper.specs.Confirmations.{furthest}
 use Rattle.finding.specs.Finder.{advance}
@@ -7,10 +7,7 @@ use Rattle.finding.specs.Finder as finder
 use Rattle.finding.specs.Search.{beginning, take}
 use Rattle.finding.specs.declared.Search.{Search}
 use Rattle.finding.specs.declared.Form.{Form}
-use Rattle.paper.specs.declared.LastAccepted.{LastAccepted}
-use Rattle.paper.specs.declared.LastAccepted.TheVariants.{NoneYet, Number}
-use Rattle.finding.specs.declared.Open.{Open}
-use Rattle.finding.specs.declared.Open.TheVariants.{Outside, Within}
+use Rattle.finding.specs.declared.Begun.{Begun}
 use Rattle.finding.specs.declared.Finder.{Finder}
 
 -- a character, as the reader's two lists have it
@@ -24,20 +21,18 @@ tens zero = 1
 tens (suc k) = 10 * tens k
 
 pub record SoundForm (f : Form) : Type 0 where
-  pub seen : f.seen ≤ 12
+  pub seen : f.seen ≤ 11
   pub number : f.number < tens (min f.seen 4)
   pub litres : f.litres < tens (f.seen - 5)
 
-abbrev pub SoundOpen : Open → Type 0
-SoundOpen Outside = Unit
-SoundOpen (Within g) = SoundForm g.form
+abbrev pub SoundRun : Option Begun → Type 0
+SoundRun run = IfSome run (λ g. IfSome g.form SoundForm)
 
-abbrev pub SoundLast : LastAccepted → Type 0
-SoundLast NoneYet = Unit
-SoundLast (Number n) = n < 10000
+abbrev pub SoundLast : Option ℕ → Type 0
+SoundLast last = IfSome last (λ n. n < 10000)
 
 pub record SoundFinder (f : Finder) : Type 0 where
-  pub run : SoundOpen f.run
+  pub run : SoundRun f.run
   pub last : SoundLast f.last
   pub passed : f.passed ≤ furthest
   pub sum : f.sum ≤ furthest
@@ -49,6 +44,6 @@ pub record SoundSearch (s : Search) : Type 0 where
 
 pub record Bounds : Type 0 where
   pub fresh : SoundFinder finder.beginning
-  pub kept : (f : Finder) (c : Character) → SoundFinder f → SoundFinder (advance f c).finder
+  pub kept : (f : Finder) (c : Character) → SoundFinder f → IfOk (advance f c) (λ k. SoundFinder k.finder)
   pub beginning : SoundSearch beginning
-  pub searched : (s : Search) (b : ℕ) → SoundSearch s → SoundSearch (take s b).search
+  pub searched : (s : Search) (b : ℕ) → SoundSearch s → IfOk (take s b) (λ k. SoundSearch k.search)

@@ -1,19 +1,17 @@
 -- THE SEARCH through a marked stream, byte by byte: the reader of 01 and the finder behind it.
-use Rattle.std.specs.Prelude.{◌≡◌, Bool, true, false, List, [], ◌∷◌, ℕ, ◌+◌, ◌-◌, eqb, length, if◌then◌else◌}
+use Rattle.std.specs.Prelude.{◌≡◌, true, false, List, [], ◌∷◌, ℕ, ◌+◌, ◌-◌, eqb, length, if◌then◌else◌, Option, None, Result, Ok, Err}
 use Rattle.paper.specs.Stream.{Character, good, damaged, readout}
-use Rattle.paper.specs.Confirmations.{entries, sum, countable}
+use Rattle.paper.specs.Confirmations.{ahead, entries, sum, countable}
 use Rattle.paper.specs.Yield.{counted_front}
 use Rattle.paper.specs.declared.Entry.{Entry}
 use Rattle.finding.specs.Finder.{advance}
 use Rattle.finding.specs.Finder as finder
-use Rattle.finding.specs.declared.Finder.{Finder}
-use Rattle.finding.specs.declared.Found.{Found}
-use Rattle.finding.specs.declared.Found.TheVariants as found
+use Rattle.finding.specs.declared.Step.{Step}
 use Rattle.finding.specs.declared.PartRead.{PartRead}
 use Rattle.finding.specs.declared.PartRead.TheVariants as parts
 use Rattle.finding.specs.declared.Search.{Search}
-use Rattle.finding.specs.declared.Told.{Told}
-use Rattle.finding.specs.declared.Told.TheVariants as told
+use Rattle.finding.specs.declared.Stop.{Stop}
+use Rattle.finding.specs.declared.Stop.TheVariants.{Broken, Full}
 use Rattle.finding.specs.declared.Taken.{Taken}
 
 abbrev pub beginning : Search
@@ -22,37 +20,30 @@ beginning = record { part = parts.Nothing; place = 0; finder = finder.beginning 
 -- ONE BYTE
 
 abbrev pub waits : Search → PartRead → Taken
-waits s part = record { search = record { part = part; place = s.place; finder = s.finder }; told = told.Nothing }
+waits s part = record { search = record { part = part; place = s.place; finder = s.finder }; entry = None }
 
-abbrev pub behind : Search → (width : ℕ) → Finder → Told → Taken
-behind s width f t = record { search = record { part = parts.Nothing; place = s.place + width; finder = f }; told = t }
+abbrev pub behind : Search → (width : ℕ) → Step → Taken
+behind s width k = record { search = record { part = parts.Nothing; place = s.place + width; finder = k.finder }; entry = k.entry }
 
-abbrev pub passed : Search → (width : ℕ) → Finder → Found → Taken
-passed s width f found.Nothing = behind s width f told.Nothing
-passed s width f (found.One e) = behind s width f (told.One e)
-passed s width f found.Full = record { search = s; told = told.Full s.finder.passed }
+abbrev pub passed : Search → (width : ℕ) → Result Step Stop → Result Taken Stop
+passed s width (Ok k) = Ok (behind s width k)
+passed s width (Err e) = Err e
 
 -- a whole character: the finder takes it
-unfoldable pub pass : Search → (width : ℕ) → Character → Taken
-pass s width c = passed s width (advance s.finder c).finder (advance s.finder c).found
+unfoldable pub pass : Search → (width : ℕ) → Character → Result Taken Stop
+pass s width c = passed s width (advance s.finder c)
 
 -- "FF FF is good FF; FF 00 x is damaged x; any other byte but FF is a good byte. FF before any other byte ... is broken"
-unfoldable pub taken_at : PartRead → Search → ℕ → Taken
-taken_at parts.Nothing s b = if eqb b 0xFF then waits s parts.Mark else pass s 1 (good b)
+unfoldable pub taken_at : PartRead → Search → ℕ → Result Taken Stop
+taken_at parts.Nothing s b = if eqb b 0xFF then Ok (waits s parts.Mark) else pass s 1 (good b)
 taken_at parts.Mark s b =
     if eqb b 0xFF then pass s 2 (good 0xFF) else
-    if eqb b 0x00 then waits s parts.MarkZero else
-    record { search = s; told = told.Broken s.place }
+    if eqb b 0x00 then Ok (waits s parts.MarkZero) else
+    Err (Broken s.place)
 taken_at parts.MarkZero s b = pass s 3 (damaged b)
 
-unfoldable pub take : Search → ℕ → Taken
+unfoldable pub take : Search → ℕ → Result Taken Stop
 take s b = taken_at s.part s b
-
-abbrev pub is_told : Told → Bool
-is_told told.Nothing = false
-is_told (told.One e) = true
-is_told (told.Broken place) = true
-is_told (told.Full place) = true
 
 -- ALL BYTES
 
@@ -75,15 +66,20 @@ end_at parts.Nothing s = ended s.finder.sum
 end_at parts.Mark s = broken s.place
 end_at parts.MarkZero s = broken s.place
 
-abbrev pub goes_on : Told → Outcome → Outcome
-goes_on told.Nothing o = o
-goes_on (told.One e) o = record { entries = e ∷ o.entries; ending = o.ending }
-goes_on (told.Broken place) o = ends (broken place)
-goes_on (told.Full place) o = ends (full place)
+abbrev pub stopped : Stop → Ending
+stopped (Broken place) = broken place
+stopped (Full place) = full place
+
+abbrev pub told : Option Entry → Outcome → Outcome
+told entry o = record { entries = ahead entry o.entries; ending = o.ending }
+
+abbrev pub goes_on : Result Taken Stop → (Search → Outcome) → Outcome
+goes_on (Ok k) rest = told k.entry (rest k.search)
+goes_on (Err e) rest = ends (stopped e)
 
 abbrev pub outcome : Search → List ℕ → Outcome
 outcome s [] = ends (end_at s.part s)
-outcome s (b ∷ bs) = goes_on (take s b).told (outcome (take s b).search bs)
+outcome s (b ∷ bs) = goes_on (take s b) (λ t. outcome t bs)
 
 -- WHAT IT COMES TO, by the definitions: the entries of the characters that can be counted; and the sum, or the broken FF, where these are all characters
 

@@ -1,39 +1,32 @@
 -- A stretch of good characters that neither begin nor end a run, as the code goes through it.
-use Rattle.std.specs.Prelude.{◌≡◌, ◌≢◌, List, ℕ, zero, suc, ◌+◌, ◌-◌, ◌≤◌, ◌<◌, length, get_or}
+use Rattle.std.specs.Prelude.{Bool, not, ◌||◌, List, [], ◌∷◌, ℕ, ◌+◌, eqb, length, Option, Some, None}
 use Rattle.finding.specs.Finder.{form_step}
-use Rattle.finding.specs.Bounds.{SoundForm}
 use Rattle.finding.specs.declared.Form.{Form}
-use Rattle.finding.specs.declared.Open.{Open}
-use Rattle.finding.specs.declared.PartRead.TheVariants as parts
+use Rattle.finding.specs.declared.Begun.{Begun}
 use Rattle.finding.specs.declared.Search.{Search}
 
 -- neither an FF, nor an STX, nor an ETX
-pub record Plain (b : ℕ) : Type 0 where
-  pub no_mark : b ≢ 0xFF
-  pub no_start : b ≢ 0x02
-  pub no_finish : b ≢ 0x03
+abbrev pub is_plain : ℕ → Bool
+is_plain b = not (eqb b 0xFF || eqb b 0x02 || eqb b 0x03)
 
--- no other byte stands from one place of a piece to another
-pub record PlainTo (piece : List ℕ) (from at : ℕ) : Type 0 where
-  pub onward : from ≤ at
-  pub within : at ≤ length piece
-  pub plain : (i : ℕ) → from ≤ i → i < at → Plain (get_or piece i 0)
+abbrev pub form_over : Option Form → List ℕ → Option Form
+form_over None bs = None
+form_over (Some f) [] = Some f
+form_over (Some f) (b ∷ bs) = form_over (form_step f b) bs
 
--- the form behind so many bytes of a piece, from a place on
-abbrev pub form_over : List ℕ → (from count : ℕ) → Form → Form
-form_over piece from zero f = f
-form_over piece from (suc k) f = form_step (form_over piece from k f) (get_or piece (from + k) 0)
+abbrev pub grown_over : Begun → List ℕ → Begun
+grown_over g bs = record { place = g.place; damaged = g.damaged; form = form_over g.form bs }
 
-pub record Formed (piece : List ℕ) (from : ℕ) (start : Form) (at : ℕ) (form : Form) : Type 0 where
-  pub stretch : PlainTo piece from at
-  pub form_is : form ≡ form_over piece from (at - from) start
-  pub sound : SoundForm form
+abbrev pub run_over : Option Begun → List ℕ → Option Begun
+run_over None bs = None
+run_over (Some g) bs = Some (grown_over g bs)
 
--- a search behind so many good characters, with the run that they leave open
-abbrev pub moved : Search → (count : ℕ) → Open → Search
-moved s count run =
+-- a search behind so many good characters
+unfoldable pub behind : Search → List ℕ → Search
+behind s bs =
     record {
-      part = parts.Nothing;
-      place = s.place + count;
-      finder = record { passed = s.finder.passed + count; run = run; last = s.finder.last; sum = s.finder.sum };
+      part = s.part;
+      place = s.place + length bs;
+      finder =
+          record { passed = s.finder.passed + length bs; run = run_over s.finder.run bs; last = s.finder.last; sum = s.finder.sum };
     }

@@ -1,44 +1,38 @@
--- The lines of rates that come as numbers, one by one.
-use mathlib.Core.List.{List, [], ◌∷◌, ◌++◌, map, append_assoc, append-nil, map-append}
-use mathlib.Core.Path.{◌≡◌, refl, sym, ap, ◌∙◌}
-use Prim.Native.Nat.{ℕ, ◌+◌, ◌*◌, ◌≤◌, ◌<◌}
+-- The lines of rates that come as numbers.
+use mathlib.Core.List.{List, [], ◌∷◌, ◌++◌, map, append_assoc}
+use mathlib.Core.Path.{◌≡◌, refl, ap}
+use Prim.Native.Nat.{ℕ, ◌^◌, ◌≤◌, ◌<◌}
 use native.Mathlib.Omega.{arith}
-use native.Mathlib.Numerals.{add-one}
-use lib.ListN.{length, get_or, take}
-use lib.Seq.{take_all, take-suc}
+use lib.ListN.{length, length-append}
+use Rattle.paper.specs.Text.{text, each}
 use Rattle.paper.specs.Decimal.{decimal}
-use Rattle.paper.specs.RateLines.{rate_line, rate_lines}
-use Rattle.hexadecimal.specs.Written.{Wrote}
-use Rattle.hexadecimal.proofs.Laws.{wrote_none, wrote_then}
-use Rattle.fitting.specs.Lines.{longest_line, WroteWithin}
+use Rattle.paper.specs.Rate.{choose}
+use Rattle.paper.specs.RateLines.{choice_words, rate_line, rate_lines}
+use Rattle.page.specs.Page.{Page, with_text}
+use Rattle.page.proofs.Laws.{with_text_then}
+use Rattle.decimal.proofs.Digits.{decimal_of_32}
+use Rattle.decimal.proofs.ReadBack.{word_reads_back}
+use Rattle.fitting.specs.Lines.{longest, longest_line}
 
-line_behind : (clock : ℕ) (words : List (List ℕ)) (word : List ℕ) → rate_lines clock (words ++ word ∷ []) ≡ rate_lines clock words ++ rate_line clock word
-line_behind clock [] word = append-nil (rate_line clock word)
-line_behind clock (w ∷ words) word =
-    ap (rate_line clock w ++◌) (line_behind clock words word) ∙ sym (append_assoc (rate_line clock w) (rate_lines clock words) (rate_line clock word))
+abbrev pub line_of : (clock rate : ℕ) → List ℕ
+line_of clock rate = rate_line clock (decimal rate)
 
--- so many lines are written
-pub record Lines (rates : List ℕ) (clock : ℕ) (before : List ℕ) (at : ℕ) (after : List ℕ) (end i : ℕ) : Type 0 where
-  pub few : i ≤ length rates
-  pub room : at + length rates * longest_line ≤ length after
-  pub same : length after ≡ length before
-  pub short : end ≤ at + i * longest_line
-  pub wrote : Wrote before at (rate_lines clock (map decimal (take i rates))) after end
+-- what stands behind the word
+abbrev answer : (clock rate : ℕ) → List ℕ
+answer clock rate = text " " ++ choice_words (choose clock rate) ++ text "\n"
 
-pub no_lines : {rates : List ℕ} {clock : ℕ} {out : List ℕ} {at : ℕ} → at + length rates * longest_line ≤ length out → Lines rates clock out at out at 0
-no_lines h = record { few = omega arith; room = h; same = refl; short = omega arith; wrote = wrote_none }
+module _ (clock rate : ℕ) (h : rate < 2 ^ 32) where
+  number_line : line_of clock rate ≡ decimal rate ++ answer clock rate
+  unfolding rate_line
+  number_line = rw (word_reads_back rate (omega arith), append_assoc (decimal rate ++ text " "), append_assoc (decimal rate) (text " "))
 
-module _ {rates : List ℕ} {clock : ℕ} {before after : List ℕ} {at end i : ℕ} (u : Lines rates clock before at after end i) where
-  pub one_line_more : {next : List ℕ} {last : ℕ} → i < length rates → length next ≡ length after
-      → WroteWithin longest_line after end (rate_line clock (decimal (get_or rates i 0))) next last → Lines rates clock before at next last (i + 1)
-  one_line_more h e w =
-      record {
-        few = omega arith;
-        room = omega (arith, u.room);
-        same = e ∙ u.same;
-        short = omega (arith, u.short, w.short);
-        wrote = rw (add-one, take-suc rates i 0 h, map-append, line_behind clock (map decimal (take i rates))) (wrote_then u.wrote w.wrote);
-      }
+  pub number_text : (before : Page) {between after : Page} → between ≡ with_text (decimal rate) before → after ≡ with_text (answer clock rate) between
+      → after ≡ with_text (line_of clock rate) before
+  number_text before w v = rw (number_line, v, w) (with_text_then (decimal rate) (answer clock rate) before)
 
-  pub all_lines : length rates ≤ i → Wrote before at (rate_lines clock (map decimal rates)) after end
-  all_lines h = rw (take_all i rates h) at u.wrote
+  pub number_short : length (answer clock rate) ≤ longest → length (line_of clock rate) ≤ longest_line
+  number_short short = rw (number_line, length-append) (omega (arith, short, decimal_of_32 rate (omega arith)))
+
+pub all_lines : (clock : ℕ) (rates : List ℕ) → each (line_of clock) rates ≡ rate_lines clock (map decimal rates)
+all_lines clock [] = refl
+all_lines clock (rate ∷ rates) = ap (line_of clock rate ++◌) (all_lines clock rates)

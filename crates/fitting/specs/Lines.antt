@@ -1,6 +1,5 @@
 -- How long the lines for the fitters get.
-use Rattle.std.specs.Prelude.{List, ℕ, ◌+◌, ◌≤◌}
-use Rattle.hexadecimal.specs.Written.{Wrote}
+use Rattle.std.specs.Prelude.{ℕ, ◌+◌}
 
 -- a sign and nineteen digits, since its size is at most 2 ^ 63
 abbrev pub longest_signed : ℕ
@@ -17,8 +16,3 @@ longest = 1 + longest_choice + 1
 -- a line whose word is a number below 2 ^ 32
 abbrev pub longest_line : ℕ
 longest_line = 10 + longest
-
--- written, and no longer than that
-pub record WroteWithin (most : ℕ) (before : List ℕ) (at : ℕ) (text : List ℕ) (after : List ℕ) (end : ℕ) : Type 0 where
-  pub wrote : Wrote before at text after end
-  pub short : end ≤ at + most

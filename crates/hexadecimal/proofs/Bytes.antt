@@ -73,6 +73,11 @@ at_from f n zero i h = absurd (omega arith)
 at_from f n (suc many) zero h = ap f (omega arith)
 at_from f n (suc many) (suc i) h = at_from f (n + 1) many i (omega arith) ∙ ap f (omega arith)
 
+-- the capitals' table
+pub capital_at : (d : ℕ) → d < 16
+    → get_or (48 ∷ 49 ∷ 50 ∷ 51 ∷ 52 ∷ 53 ∷ 54 ∷ 55 ∷ 56 ∷ 57 ∷ 65 ∷ 66 ∷ 67 ∷ 68 ∷ 69 ∷ 70 ∷ []) d 0 ≡ capital d
+capital_at d h = at_from capital 0 16 d h ∙ rw zero-add
+
 module _ (table : List ℕ) (is : table ≡ digit_table) where
   pub table_long : length table ≡ 256
   unfolding digit_table

@@ -10,25 +10,25 @@ use native.Mathlib.Nat.{eq-or-lt_of_le, eq-zero-or-pos}
 use native.Mathlib.Numerals.{add-one}
 use lib.Dec.{eqb, leb, ltb}
 use lib.ListN.{length, get_or, take, set, length-append, length-take, length-set}
-use lib.Seq.{take_all, take-suc, append_snoc, take-suc-set, take-set-le}
+use lib.Seq.{take-suc, append_snoc, take-suc-set, take-set-le}
 use borrow.Author.Tests.{ne_eqb, lt-ltb, le-ltb, le-leb, lt-leb}
 use Rattle.std.specs.Prelude.{if◌then◌else◌}
-use Rattle.paper.specs.Text.{each}
 use Rattle.paper.specs.Settings.{Size}
 use Rattle.paper.specs.Card.{Card, Call}
 use Rattle.paper.specs.Frames.{digit, bytes_of, capital, hexadecimal, call_of, line_call, newline, replied, grown, lines, replies}
 use Rattle.hexadecimal.specs.LineSoFar.{value_or_16, held, Fits, left}
 use Rattle.hexadecimal.specs.Steps.{counted, Keeps}
-use Rattle.hexadecimal.specs.Written.{Wrote, WroteWithin}
+use Rattle.page.specs.Page.{Page, with_text}
+use Rattle.page.proofs.Laws.{with_text_then}
 use Rattle.hexadecimal.specs.declared.LineSoFar.{LineSoFar}
 use Rattle.hexadecimal.proofs.Bytes.{digit_capital, capital_newline, digit_newline, value_digit, value_none}
 use Rattle.hexadecimal.proofs.Bytes.{below_set, same_digit, no_digit, odd_count, read_back}
 
 -- HEXADECIMAL
 
-pub length-hexadecimal : (bytes : List ℕ) → length (hexadecimal bytes) ≡ 2 * length bytes
-length-hexadecimal [] = refl
-length-hexadecimal (b ∷ bytes) = let n = length-hexadecimal bytes in omega arith
+pub length_hexadecimal : (bytes : List ℕ) → length (hexadecimal bytes) ≡ 2 * length bytes
+length_hexadecimal [] = refl
+length_hexadecimal (b ∷ bytes) = let n = length_hexadecimal bytes in omega arith
 
 pub hexadecimal-append : (s t : List ℕ) → hexadecimal (s ++ t) ≡ hexadecimal s ++ hexadecimal t
 hexadecimal-append [] t = refl
@@ -153,8 +153,8 @@ length-held : (d last : ℕ) (frame : List ℕ) → d ≤ 68 → length frame �
 length-held d last frame h room = go (halved d) h
   where
     go : {d : ℕ} → Halved d → d ≤ 68 → length (held (counted d last) frame) ≡ d
-    go (even k) h = rw (even_held k last frame (omega arith), length-hexadecimal, length-take) (omega arith)
-    go (odd k) h = rw (odd_held k last frame (omega arith), length-append, length-hexadecimal, length-take) (omega arith)
+    go (even k) h = rw (even_held k last frame (omega arith), length_hexadecimal, length-take) (omega arith)
+    go (odd k) h = rw (odd_held k last frame (omega arith), length-append, length_hexadecimal, length-take) (omega arith)
 
 -- a digit more, in capitals
 held_digit : (d last v : ℕ) (frame : List ℕ) → d < 68 → last < 16 → v < 16 → length frame ≡ 34
@@ -285,79 +285,21 @@ ended_call z line frame fits = ⊎_elim none_left (go line.last (halved line.dig
         let bytes = take k frame in
         let half : 2 * k / 2 ≡ k = omega arith in
         let over : 2 * k % 2 ≡ 0 = omega arith in
-        let short : length (hexadecimal bytes) ≤ 68 = rw (length-hexadecimal, length-take) (omega arith) in
+        let short : length (hexadecimal bytes) ≤ 68 = rw (length_hexadecimal, length-take) (omega arith) in
         rw (even_held k last frame (omega arith), le-ltb 68 (length (hexadecimal bytes)) short, read_back k frame fits.bytes, half, over)
     go last (odd k) h =
         let bytes = take k frame in
         let over : (2 * k + 1) % 2 ≡ 1 = omega arith in
         rw (odd_held k last frame (omega arith), over) (no_call z (hexadecimal bytes ++ capital last ∷ []) (odd_count bytes (capital last)))
 
--- TEXTS THAT ARE WRITTEN
+-- BYTES THAT ARE PUT ON A PAGE
 
-pub wrote_none : {out : List ℕ} {at : ℕ} → Wrote out at [] out at
-wrote_none {out} {at} = record { place = omega arith; front = sym (append-nil (take at out)) }
+-- so many bytes are on the page
+module _ (bytes : List ℕ) (i : ℕ) (before mid : Page) (put : mid ≡ with_text (hexadecimal (take i bytes)) before) where
+  pub room_for_more : i < length bytes → 2 * length bytes ≤ before.room → 2 ≤ mid.room
+  room_for_more h all = rw (put, length_hexadecimal, length-take) (omega arith)
 
-pub wrote_one : (out : List ℕ) (at c : ℕ) → at < length out → Wrote out at (c ∷ []) (set out at c) (at + 1)
-wrote_one out at c h = record { place = refl; front = rw (add-one, take-suc-set out at c) }
-
--- one text behind another
-pub wrote_then : {out mid after t u : List ℕ} {at end last : ℕ} → Wrote out at t mid end → Wrote mid end u after last
-    → Wrote out at (t ++ u) after last
-wrote_then {out} {t = t} {u = u} {at = at} first second =
-    record {
-      place = let p = first.place in let q = second.place in rw (length-append t u) (omega arith);
-      front = second.front ∙ rw first.front (append_assoc (take at out) t u);
-    }
-
-pub wrote_byte : (out : List ℕ) (at byte high low : ℕ) → at + 2 ≤ length out → high ≡ capital (byte / 16) → low ≡ capital (byte % 16)
-    → Wrote out at (hexadecimal (byte ∷ [])) (set (set out at high) (at + 1) low) (at + 2)
-wrote_byte out at byte high low h e f =
-    let behind : at + 1 + 1 ≡ at + 2 = omega arith in
-    let both = wrote_then (wrote_one out at high (omega arith)) (wrote_one (set out at high) (at + 1) low (rw length-set (omega arith))) in
-    rw (← e, ← f, ← behind) both
-
--- byte by byte, up to the last
-module _ {out mid : List ℕ} {at end : ℕ} (bytes : List ℕ) (i : ℕ) (wrote : Wrote out at (hexadecimal (take i bytes)) mid end) where
-  pub wrote_more : {after : List ℕ} {last : ℕ} → i < length bytes → Wrote mid end (hexadecimal (get_or bytes i 0 ∷ [])) after last
-      → Wrote out at (hexadecimal (take (i + 1) bytes)) after last
-  wrote_more h next = rw (add-one, take-suc bytes i 0, hexadecimal-append) (wrote_then wrote next)
-
-  pub wrote_all : length bytes ≤ i → Wrote out at (hexadecimal bytes) mid end
-  wrote_all h = rw (take_all i bytes h) at wrote
-
--- what is written ends inside the buffer
-pub ends_inside : {before text after : List ℕ} {at end : ℕ} → Wrote before at text after end → at ≤ length before → end ≤ length after
-ends_inside w h = omega (arith, w.place, simp (length-append, length-take) at (ap length w.front))
-
--- TEXTS ONE BEHIND THE OTHER
-
-each_behind : {A : Type 0} (f : A → List ℕ) (l : List A) (a : A) → each f (l ++ a ∷ []) ≡ each f l ++ f a
-each_behind f [] a = append-nil (f a)
-each_behind f (b ∷ l) a = ap (f b ++◌) (each_behind f l a) ∙ sym (append_assoc (f b) (each f l) (f a))
-
--- of a list's members so many are written, each no longer than that
-pub record EachWrote {A : Type 0} (f : A → List ℕ) (longest : ℕ) (l : List A) (before : List ℕ) (at : ℕ) (after : List ℕ) (end i : ℕ) : Type 0 where
-  pub few : i ≤ length l
-  pub room : at + length l * longest ≤ length after
-  pub same : length after ≡ length before
-  pub short : end ≤ at + i * longest
-  pub wrote : Wrote before at (each f (take i l)) after end
-
-module _ {A : Type 0} (f : A → List ℕ) (longest : ℕ) (l : List A) where
-  pub none_wrote : {out : List ℕ} {at : ℕ} → at + length l * longest ≤ length out → EachWrote f longest l out at out at 0
-  none_wrote h = record { few = omega arith; room = h; same = refl; short = omega arith; wrote = wrote_none }
-
-  module _ {before after : List ℕ} {at end i : ℕ} (u : EachWrote f longest l before at after end i) where
-    pub one_wrote_more : (a : A) → {next : List ℕ} {last : ℕ} → i < length l → length next ≡ length after
-        → WroteWithin longest after end (f (get_or l i a)) next last → EachWrote f longest l before at next last (i + 1)
-    one_wrote_more a h e w =
-        record {
-          few = omega arith;
-          room = omega (arith, u.room);
-          same = e ∙ u.same;
-          short = omega (arith, u.short, w.short);
-          wrote = rw (add-one, take-suc l i a h, each_behind f (take i l)) (wrote_then u.wrote w.wrote);
-        }
-
-    pub each_wrote : length l ≤ i → Wrote before at (each f l) after end
-    each_wrote h = rw (take_all i l h) at u.wrote
+  pub put_more : (after : Page) → i < length bytes → after ≡ with_text (hexadecimal (get_or bytes i 0 ∷ [])) mid
+      → after ≡ with_text (hexadecimal (take (i + 1) bytes)) before
+  put_more after h next =
+      rw (add-one, take-suc bytes i 0, hexadecimal-append) (next ∙ ap (with_text _) put ∙ with_text_then (hexadecimal (take i bytes)) _ before)

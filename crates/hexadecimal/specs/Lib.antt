@@ -1,3 +1,2 @@
 pub mod LineSoFar
 pub mod Steps
-pub mod Written

@@ -5,7 +5,9 @@ ghost use Rattle.std.specs.Prelude.{◌≡◌, [], ◌∷◌, ◌≢◌, ◌+◌
 ghost use Rattle.paper.specs.Frames as paper;
 ghost use Rattle.hexadecimal.specs.LineSoFar.{value_or_16, digit_table, most_bytes, Fits, Gathers};
 ghost use Rattle.hexadecimal.specs.Steps.{counted, Keeps, Paired, Follows};
-ghost use Rattle.hexadecimal.specs.Written.{Wrote};
+ghost use Rattle.page.specs.Page.{with_text};
+
+use page::Page;
 
 // "at most 34 bytes"
 pub const MOST: usize = 34;
@@ -115,19 +117,16 @@ fn pairs(digits: &[u8], piece: &[u8], from: usize, frame: &mut [u8]) -> usize
     ensures { Paired piece.now from frame.old result frame.new }
 {
     let most = pairs_in(piece.len() - from);
-    let mut at = from;
-    let mut count = 0;
-    while count < most {
+    for count in 0..most {
+        let at = from + 2 * count;
         let high = value(digits, piece[at]);
         let low = value(digits, piece[at + 1]);
         if 15 < high | low {
             return count;
         }
         frame[count] = high * 16 + low;
-        at += 2;
-        count += 1;
     }
-    count
+    most
 }
 
 // The characters from a place on, one by one, up to a newline or the piece's end.
@@ -136,14 +135,12 @@ fn follow(digits: &[u8], piece: &[u8], from: usize, line: LineSoFar, frame: &mut
     requires from_in_bounds { (from ≤ length piece.now) × Fits line frame.old }
     ensures { Follows piece.now from line frame.old result frame.new }
 {
-    let mut at = from;
     let mut held = line;
-    while at < piece.len() {
+    for at in from..piece.len() {
         let character = piece[at];
-        at += 1;
         if character == NEWLINE {
             return Cut {
-                at,
+                at: at + 1,
                 line: held,
                 ended: true,
             };
@@ -151,7 +148,7 @@ fn follow(digits: &[u8], piece: &[u8], from: usize, line: LineSoFar, frame: &mut
         held = keep(digits, character, held, frame);
     }
     Cut {
-        at,
+        at: piece.len(),
         line: held,
         ended: false,
     }
@@ -174,38 +171,38 @@ pub fn gather(digits: &[u8], piece: &[u8], from: usize, line: LineSoFar, frame: 
     follow(digits, piece, from, line, frame)
 }
 
-// A digit as a capital: 0 to 9 are the characters 48 to 57, A to F 65 to 70.
+// The digits as capitals.
+const CAPITALS: [u8; 16] = *b"0123456789ABCDEF";
+
+// A digit as a capital.
+#[tactic(auto, using(crate::proofs::Bytes::capital_at))]
 fn capital(d: u8) -> u8
     requires { d < 16 }
     ensures { result ≡ paper.capital d }
 {
-    if d < 10 {
-        return d + 48;
-    }
-    d + 55
+    CAPITALS[d as usize]
 }
 
-// A byte as two capitals, from a place on; answers the place behind them.
-#[tactic(auto, using(crate::proofs::Laws::wrote_byte))]
-pub fn put_byte(out: &mut [u8], at: usize, byte: u8) -> usize
-    requires { at + 2 ≤ length out.old }
-    ensures { Wrote out.old at (paper.hexadecimal (byte ∷ [])) out.new result }
+// A byte as two capitals.
+pub fn capitals(byte: u8) -> [u8; 2]
+    ensures { result ≡ paper.hexadecimal (byte ∷ []) }
 {
-    out[at] = capital(byte / 16);
-    out[at + 1] = capital(byte % 16);
-    at + 2
+    [capital(byte / 16), capital(byte % 16)]
+}
+
+pub fn put_byte(page: &mut Page<'_>, byte: u8)
+    requires { 2 ≤ page.old.room }
+    ensures { page.new ≡ with_text (paper.hexadecimal (byte ∷ [])) page.old }
+{
+    page.put_text(&capitals(byte));
 }
 
 // Bytes as two capitals each.
-pub fn put_bytes(out: &mut [u8], at: usize, bytes: &[u8]) -> usize
-    requires { at + 2 * length bytes.now ≤ length out.old }
-    ensures { Wrote out.old at (paper.hexadecimal bytes.now) out.new result }
+pub fn put_bytes(page: &mut Page<'_>, bytes: &[u8])
+    requires { 2 * length bytes.now ≤ page.old.room }
+    ensures { page.new ≡ with_text (paper.hexadecimal bytes.now) page.old }
 {
-    let mut end = at;
-    let mut i = 0;
-    while i < bytes.len() {
-        end = put_byte(out, end, bytes[i]);
-        i += 1;
+    for byte in bytes {
+        put_byte(page, *byte);
     }
-    end
 }

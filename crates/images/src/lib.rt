@@ -12,38 +12,38 @@ use paper::Item;
 #[tactic(auto, unfolding(crate::specs::Code::item_in))]
 fn put_image(part: &mut [u8], kind: u8, byte: u8) -> usize
     requires { 3 ≤ length part.old }
-    ensures { (result ≡ length (image (item_in kind byte))) × (part.new ≡ front (image (item_in kind byte)) part.old) }
+    ensures value { result ≡ length (image (item_in kind byte)) }
+    ensures part_after { part.new ≡ front (image (item_in kind byte)) part.old }
 {
-    if kind == 0 {
-        part[0] = byte;
-        return 1;
+    match kind {
+        0 => {
+            part[0] = byte;
+            1
+        }
+        1 => {
+            part[0] = 255;
+            part[1] = 255;
+            2
+        }
+        _ => {
+            part[0] = 255;
+            part[1] = 0;
+            part[2] = byte;
+            3
+        }
     }
-    if kind == 1 {
-        part[0] = 255;
-        part[1] = 255;
-        return 2;
-    }
-    part[0] = 255;
-    part[1] = 0;
-    part[2] = byte;
-    3
 }
 
 // "writes their images into the lent buffer from a given place on"; answers how many bytes they are.
 pub fn put_images(kinds: &[u8], bytes: &[u8], buffer: &mut [u8], place: usize) -> usize
-    requires { (length kinds.now ≡ length bytes.now) × (place + 3 * length kinds.now ≤ length buffer.old) }
-    ensures { (result ≡ length (images_in kinds.now bytes.now))
-        × (buffer.new ≡ written buffer.old place (images_in kinds.now bytes.now)) }
+    requires same_length { length kinds.now ≡ length bytes.now }
+    requires room { place + 3 * length kinds.now ≤ length buffer.old }
+    ensures value { result ≡ length (images_in kinds.now bytes.now) }
+    ensures buffer_after { buffer.new ≡ written buffer.old place (images_in kinds.now bytes.now) }
 {
-    let mut long: usize = 0;
-    let mut i: usize = 0;
-    while i < kinds.len() {
-        let kind = kinds[i];
-        let byte = bytes[i];
-        let from = place + long;
-        let more = put_image(&mut buffer[from..], kind, byte);
-        long += more;
-        i += 1;
+    let mut long = 0;
+    for (kind, byte) in kinds.iter().zip(bytes) {
+        long += put_image(&mut buffer[place + long..], *kind, *byte);
     }
     long
 }
@@ -64,8 +64,7 @@ pub fn byte_of(item: Item) -> u8
     ensures { result ≡ byte_of item }
 {
     match item {
-        Item::Plain(b) => b,
+        Item::Plain(b) | Item::Damaged(b) => b,
         Item::Doubled => 255,
-        Item::Damaged(b) => b,
     }
 }

@@ -1,158 +1,114 @@
 -- What two boxes let out, and the setting that lets out the same.
 use mathlib.Core.Bool.{Bool, true, false, ◌||◌}
 use mathlib.Core.List.{[], ◌∷◌, ◌++◌, append-nil}
-use mathlib.Core.Logic.{◌≢◌}
-use mathlib.Core.Option.{Option, none, some, none-ne-some, some-injective}
-use mathlib.Core.Path.{◌≡◌, refl, sym}
-use Prim.Native.Nat.{ℕ, ◌+◌, ◌≤◌, ◌<◌}
-use native.Mathlib.Omega.{arith}
+use mathlib.Core.Path.{◌≡◌, refl, ap, ◌∙◌}
+use Prim.Native.Nat.{ℕ, ◌+◌}
 use lib.Bits.{bit_and}
 use lib.Dec.{eqb, ltb}
-use borrow.Author.Tests.{eqb-true, ne_eqb, ltb-true, ltb-false, lt-ltb, le-ltb}
-use Rattle.std.specs.Prelude.{if◌then◌else◌}
+use borrow.Author.Tests.{ltb-true, ltb-false}
+use Rattle.std.specs.Prelude.{if◌then◌else◌, Option, None, Some, Result, Ok, Err, option_and_then}
 use Rattle.paper.specs.Choice.{outside}
-use Rattle.paper.specs.Rate.{first_of}
 use Rattle.paper.specs.Arrival.{CR, NL, ending}
-use Rattle.paper.specs.Settings.{settings_of}
-use Rattle.paper.specs.TwoBoxes.{ending_of, comes, acts, followed, works, single, answered, one_ending}
-use Rattle.paper.specs.declared.Settings.{Settings}
+use Rattle.paper.specs.TwoBoxes.{comes, acts, followed, works, single, one_ending}
+use Rattle.paper.specs.declared.Refusal.{Refusal}
 use Rattle.paper.specs.declared.Refusal.TheVariants.{BadField}
-use Rattle.paper.specs.declared.OneEnding.{OneEnding}
-use Rattle.paper.specs.declared.OneEnding.TheVariants.{Does, NoneDoes, Unanswered}
-use Rattle.rules.specs.Table.{comes_out}
-use Rattle.rules.proofs.Rows.{from_bits, by_bits, no_row}
-use Rattle.joining.specs.Passing.{onward, passed, Ends, dropped, as_cr, as_nl, bits_of_cr, bit_of_nl, least_for}
-
--- A VALUE OF FIELD 4, as the settings of a channel have it
-
-abbrev settings_with : (value : ℕ) → Settings
-settings_with value = settings_of (0 ∷ 0 ∷ 0 ∷ value ∷ [])
-
--- a value of the eight: by its bits
-pub value_by_bits : (value b : ℕ) → (eqb b CR || eqb b NL) ≡ true → value ≤ 7
-    → ending_of value b ≡ (if eqb b CR then (from_bits value).cr else (from_bits value).nl)
-unfolding ending ending_of
-value_by_bits value b one h = by_bits (settings_with value) b one h
-
--- a value above 7 has no row: nothing comes out
-pub value_no_row : (value b : ℕ) → (eqb b CR || eqb b NL) ≡ true → 7 < value → ending_of value b ≡ none
-unfolding ending ending_of
-value_no_row value b one h = no_row (settings_with value) b one h
+use Rattle.rules.proofs.Rows.{cr_by_bits, nl_by_bits, no_cr, no_nl}
+use Rattle.joining.specs.Passing.{passed, Ends, dropped, as_cr, as_nl, bits_of_cr, bit_of_nl, least_for, setting_of}
 
 -- WHAT COMES OUT OF A ROW
 
--- nothing, CR or NL
-data Out : Option ℕ → Type 0 where
-  nothing : Out none
-  a_cr : Out (some CR)
-  an_nl : Out (some NL)
+cr_out : (drops turns : Bool) → Ends (if drops then if turns then Some CR else Some NL else None)
+cr_out true true = as_cr
+cr_out true false = as_nl
+cr_out false turns = dropped
 
-by_its_bits : (c f t n : Bool)
-    → Out (if c then if f then if t then some CR else some NL else none else if n then some NL else some CR)
-by_its_bits true true true n = a_cr
-by_its_bits true true false n = an_nl
-by_its_bits true false t n = nothing
-by_its_bits false f t true = an_nl
-by_its_bits false f t false = a_cr
+nl_out : (turns : Bool) → Ends (if turns then Some NL else Some CR)
+nl_out true = as_nl
+nl_out false = as_cr
 
-row_out : (value b : ℕ) → (eqb b CR || eqb b NL) ≡ true → Out (ending_of value b)
-row_out value b one = go (ltb 7 value) refl
+cr_ends : (value : ℕ) → Ends (ending value CR)
+cr_ends value = go (ltb 7 value) refl
   where
-    go : (t : Bool) → ltb 7 value ≡ t → Out (ending_of value b)
-    go true e = rw (value_no_row value b one (ltb-true 7 value e)) nothing
-    go false e =
-        rw (value_by_bits value b one (ltb-false 7 value e))
-        (by_its_bits (eqb b CR) (eqb (bit_and value 4) 0) (eqb (bit_and value 2) 0) (eqb (bit_and value 1) 0))
+    go : (t : Bool) → ltb 7 value ≡ t → Ends (ending value CR)
+    go true e = rw (no_cr value (ltb-true 7 value e)) dropped
+    go false e = rw (cr_by_bits value (ltb-false 7 value e)) (cr_out (eqb (bit_and value 4) 0) (eqb (bit_and value 2) 0))
 
-none_out : (out : ℕ) → comes_out out ≡ none → out ≡ 0
-none_out out h = go (eqb out 0) refl h
+nl_ends : (value : ℕ) → Ends (ending value NL)
+nl_ends value = go (ltb 7 value) refl
   where
-    go : (t : Bool) → eqb out 0 ≡ t → (if t then none else some out) ≡ none → out ≡ 0
-    go true e h = eqb-true out 0 e
-    go false e h = absurd (none-ne-some out (sym h))
-
-some_out : (out b : ℕ) → comes_out out ≡ some b → out ≡ b
-some_out out b h = go (eqb out 0) h
-  where
-    go : (t : Bool) → (if t then none else some out) ≡ some b → out ≡ b
-    go true h = absurd (none-ne-some b h)
-    go false h = some-injective out b h
-
-out_ends : (out : ℕ) {o : Option ℕ} → Out o → comes_out out ≡ o → Ends out
-out_ends out nothing h = rw (none_out out h) dropped
-out_ends out a_cr h = rw (some_out out CR h) as_cr
-out_ends out an_nl h = rw (some_out out NL h) as_nl
-
-pub row_ends : (value b : ℕ) {out : ℕ} → (eqb b CR || eqb b NL) ≡ true → comes_out out ≡ ending_of value b → Ends out
-row_ends value b {out} one h = out_ends out (row_out value b one) h
+    go : (t : Bool) → ltb 7 value ≡ t → Ends (ending value NL)
+    go true e = rw (no_nl value (ltb-true 7 value e)) dropped
+    go false e = rw (nl_by_bits value (ltb-false 7 value e)) (nl_out (eqb (bit_and value 1) 0))
 
 -- ONE BOX BEHIND THE OTHER
 
-pub an_end : {b : ℕ} → Ends b → b ≢ 0 → (eqb b CR || eqb b NL) ≡ true
-an_end dropped there = absurd (there refl)
-an_end as_cr there = refl
-an_end as_nl there = refl
+onward : (second : ℕ) {o : Option ℕ} → Ends o → Ends (option_and_then (ending second) o)
+onward second dropped = dropped
+onward second as_cr = cr_ends second
+onward second as_nl = nl_ends second
 
-module _ (first second b : ℕ) {between : ℕ} (h : comes_out between ≡ ending_of first b) where
-  pub stopped : between ≡ 0 → none ≡ passed first second b
-  unfolding passed
-  stopped e = rw (← h, e)
+pub both_cr : (first second : ℕ) → Ends (passed first second CR)
+both_cr first second = onward second (cr_ends first)
 
-  pub went_on_lem : between ≢ 0 → ending_of second between ≡ passed first second b
-  unfolding passed
-  went_on_lem e = rw (← h, ne_eqb between 0 e)
+pub both_nl : (first second : ℕ) → Ends (passed first second NL)
+both_nl first second = onward second (nl_ends first)
 
 -- THE SETTING
 
-pub followed_is : (first second b : ℕ) → followed first second (b ∷ []) ≡ comes (passed first second b)
-unfolding passed
-followed_is first second b = go (ending_of first b)
+followed_is : (first second b : ℕ) → followed first second (b ∷ []) ≡ comes (passed first second b)
+followed_is first second b = go (ending first b)
   where
-    go : (o : Option ℕ) → acts second (comes o ++ []) ≡ comes (onward second o)
-    go none = refl
-    go (some c) = append-nil (comes (ending_of second c))
+    go : (o : Option ℕ) → acts second (comes o ++ []) ≡ comes (option_and_then (ending second) o)
+    go None = refl
+    go (Some c) = append-nil (comes (ending second c))
 
-pub single_is : (first second : ℕ) → single first second ≡ least_for (passed first second CR) (passed first second NL)
+single_is : (first second : ℕ) → single first second ≡ least_for (passed first second CR) (passed first second NL)
 unfolding single least_for works
 single_is first second = rw (← followed_is first second CR, ← followed_is first second NL)
 
-pub none_with : {cr : ℕ} → Ends cr → NoneDoes ≡ answered (least_for (comes_out cr) none)
-unfolding least_for first_of ending_of
+pub none_with : {cr : Option ℕ} → Ends cr → None ≡ least_for cr None
+unfolding least_for ending
 none_with dropped = refl
 none_with as_cr = refl
 none_with as_nl = refl
 
-pub does_with : {cr nl : ℕ} → Ends cr → Ends nl → nl ≢ 0 → Does (bits_of_cr cr + bit_of_nl nl) ≡ answered (least_for (comes_out cr) (comes_out nl))
-unfolding least_for first_of ending_of
-does_with c dropped there = absurd (there refl)
-does_with dropped as_cr there = refl
-does_with as_cr as_cr there = refl
-does_with as_nl as_cr there = refl
-does_with dropped as_nl there = refl
-does_with as_cr as_nl there = refl
-does_with as_nl as_nl there = refl
+pub does_with : {cr : Option ℕ} {nl : ℕ} → Ends cr → Ends (Some nl) → Some (bits_of_cr cr + bit_of_nl nl) ≡ least_for cr (Some nl)
+unfolding least_for ending
+does_with dropped as_cr = refl
+does_with as_cr as_cr = refl
+does_with as_nl as_cr = refl
+does_with dropped as_nl = refl
+does_with as_cr as_nl = refl
+does_with as_nl as_nl = refl
 
 -- ANY TWO NUMBERS
 
-above : (n : ℕ) → 7 < n → outside 0 7 n ≡ true
-above n h = rw (le-ltb n 0 (omega arith), lt-ltb 7 n h)
+-- by its two numbers as settings
+chosen : Result ℕ Refusal → Result ℕ Refusal → Result (Option ℕ) Refusal
+chosen (Err r) second = Err r
+chosen (Ok a) (Err r) = Err r
+chosen (Ok a) (Ok b) = Ok (least_for (passed a b CR) (passed a b NL))
 
-of_the_eight : (n : ℕ) → n ≤ 7 → outside 0 7 n ≡ false
-of_the_eight n h = rw (le-ltb n 0 (omega arith), le-ltb 7 n h)
+is_chosen : (first second : ℕ) → one_ending first second ≡ chosen (setting_of first) (setting_of second)
+unfolding one_ending setting_of chosen
+is_chosen first second = go (outside 0 7 first) (outside 0 7 second)
+  where
+    go : (t u : Bool) → ◌≡◌ {A = Result (Option ℕ) Refusal} (if t || u then Err (BadField 4) else Ok (single first second))
+        (chosen (if t then Err (BadField 4) else Ok first) (if u then Err (BadField 4) else Ok second))
+    go true u = refl
+    go false true = refl
+    go false false = ap Ok (single_is first second)
 
 module _ (first second : ℕ) where
-  pub first_above : 7 < first → Unanswered (BadField 4) ≡ one_ending first second
-  unfolding one_ending
-  first_above h = rw (above first h)
+  pub first_refused : {r : Refusal} → setting_of first ≡ Err r → one_ending first second ≡ Err r
+  unfolding chosen
+  first_refused h = is_chosen first second ∙ rw h refl
 
-  pub second_above : first ≤ 7 → 7 < second → Unanswered (BadField 4) ≡ one_ending first second
-  unfolding one_ending
-  second_above f h = rw (of_the_eight first f, above second h)
+  pub second_refused : {a : ℕ} {r : Refusal} → setting_of first ≡ Ok a → setting_of second ≡ Err r → one_ending first second ≡ Err r
+  unfolding chosen
+  second_refused h i = is_chosen first second ∙ rw (h, i) refl
 
-  pub of_two : first ≤ 7 → second ≤ 7 → one_ending first second ≡ answered (single first second)
-  unfolding one_ending
-  of_two f s = rw (of_the_eight first f, of_the_eight second s)
-
-  pub told : first ≤ 7 → second ≤ 7 → {cr nl : Option ℕ} {answer : OneEnding} → cr ≡ passed first second CR → nl ≡ passed first second NL
-      → answer ≡ answered (least_for cr nl) → answer ≡ one_ending first second
-  told f s c n e = rw (of_two f s, single_is first second, ← c, ← n) e
+  pub answered : {a b : ℕ} → setting_of first ≡ Ok a → setting_of second ≡ Ok b
+      → one_ending first second ≡ Ok (least_for (passed a b CR) (passed a b NL))
+  unfolding chosen
+  answered h i = is_chosen first second ∙ rw (h, i) refl

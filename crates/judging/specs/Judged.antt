@@ -1,24 +1,25 @@
 -- What the test of settings answers.
-use Rattle.std.specs.Prelude.{List, [], ◌∷◌, ℕ, take, if◌then◌else◌}
-use Rattle.std.proofs.Math.Option.{Option, none, some}
+use Rattle.std.specs.Prelude.{List, ℕ, Option, Some, None, Result, Ok, Err, eqb, length, take, if◌then◌else◌}
+use Rattle.std.proofs.Math.Option as maybe
+use Rattle.std.proofs.Math.Option.{none, some}
+use Rattle.paper.specs.declared.Refusal.{Refusal}
+use Rattle.paper.specs.declared.Refusal.TheVariants.{BadField}
 use Rattle.paper.specs.declared.Settings.{Settings}
 use Rattle.paper.specs.Settings.{Test, tests, settings_of}
-use Rattle.judging.specs.declared.Judged.{Judged}
-use Rattle.judging.specs.declared.Judged.TheVariants.{Fit, Bad}
 
 -- the settings that the bytes are, unless a field of theirs is bad
-abbrev pub judged_as : List ℕ → Option ℕ → Judged
-judged_as l none = Fit (settings_of l)
-judged_as l (some n) = Bad n
+abbrev pub judged_as : List ℕ → maybe.Option ℕ → Result Settings Refusal
+judged_as l none = Ok (settings_of l)
+judged_as l (some n) = Err (BadField n)
 
--- after one test more: the first bad field stays
-unfoldable pub after_test : Judged → Test → Judged
-after_test (Bad first) t = Bad first
-after_test (Fit s) t = if t.bad then Bad t.field else Fit s
+-- tests are passed, unless a field is bad
+abbrev pub passed : maybe.Option ℕ → Result Unit Refusal
+passed none = Ok tt
+passed (some n) = Err (BadField n)
 
-abbrev pub after_tests : Judged → List Test → Judged
-after_tests j [] = j
-after_tests j (t ∷ ts) = after_tests (after_test j t) ts
+-- fifteen bytes as settings
+abbrev pub fifteen : List ℕ → Option Settings
+fifteen l = if eqb (length l) 15 then Some (settings_of l) else None
 
 abbrev pub own_ranges : (most : ℕ) → Settings → List Test
 own_ranges most s = take 10 (tests most s)

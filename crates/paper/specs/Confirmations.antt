@@ -1,17 +1,14 @@
 -- 02 n: "Confirmations", "over the reader, for the filling line alone".
-use Rattle.std.specs.Prelude.{Bool, true, false, not, ◌&&◌, ◌||◌, List, [], ◌∷◌, map, ℕ, ◌+◌, ◌*◌, ◌-◌, ◌%◌, min, eqb, leb, ltb, length, take, drop, if◌then◌else◌}
-use Rattle.std.proofs.Math.Option.{Option, none, some}
+use Rattle.std.specs.Prelude.{Bool, true, false, not, ◌&&◌, ◌||◌, List, [], ◌∷◌, map, ℕ, ◌+◌, ◌-◌, ◌%◌, min, eqb, leb, ltb, length, take, drop, if◌then◌else◌, Option, Some, None, Result, Ok, Err}
 use Rattle.paper.specs.Decimal.{digit, spelled}
 use Rattle.paper.specs.Stream.{Character, good, damaged, byte, readout, front}
+use Rattle.paper.specs.declared.Refusal.{Refusal}
 use Rattle.paper.specs.declared.Refusal.TheVariants.{BrokenStream, TooManyEntries}
 use Rattle.paper.specs.declared.Confirmation.{Confirmation}
 use Rattle.paper.specs.declared.Judgement.{Judgement}
 use Rattle.paper.specs.declared.Judgement.TheVariants.{Accepted, Gap, Repeated, Aside}
 use Rattle.paper.specs.declared.Entry.{Entry}
-use Rattle.paper.specs.declared.LastAccepted.{LastAccepted}
-use Rattle.paper.specs.declared.LastAccepted.TheVariants.{NoneYet, Number}
-use Rattle.paper.specs.declared.Listing.{Listing}
-use Rattle.paper.specs.declared.Listing.TheVariants.{Listed, Unlisted}
+use Rattle.paper.specs.declared.Listed.{Listed}
 
 -- FORM: "a confirmation is STX (02), a four-digit number, a space, one to six digits of litres, ETX (03)."
 
@@ -31,8 +28,8 @@ right_length n = leb 6 n && leb n 11
 unfoldable pub confirmation_of : List ℕ → Option Confirmation
 confirmation_of bs =
     if all_fit 0 bs && right_length (length bs)
-    then some (record { number = spelled 0 (take 4 bs); litres = spelled 0 (drop 5 bs) })
-    else none
+    then Some (record { number = spelled 0 (take 4 bs); litres = spelled 0 (drop 5 bs) })
+    else None
 
 -- RUNS: "Each runs from a good STX to the next good ETX; a new good STX abandons an unfinished one."
 
@@ -48,18 +45,18 @@ mark (damaged b) = inner
 
 -- one in front of the others, where there is one
 abbrev pub ahead : {A : Type 0} → Option A → List A → List A
-ahead none xs = xs
-ahead (some x) xs = x ∷ xs
+ahead None xs = xs
+ahead (Some x) xs = x ∷ xs
 
 -- "to the next good ETX": the characters before it; none where a good STX, or the end of the characters, comes first
 abbrev pub body_at : Mark → Character → Option (List Character) → Option (List Character)
-body_at start c rest = none
-body_at finish c rest = some []
-body_at inner c none = none
-body_at inner c (some l) = some (c ∷ l)
+body_at start c rest = None
+body_at finish c rest = Some []
+body_at inner c None = None
+body_at inner c (Some l) = Some (c ∷ l)
 
 abbrev pub body : List Character → Option (List Character)
-body [] = none
+body [] = None
 body (c ∷ cs) = body_at (mark c) c (body cs)
 
 -- "the place of its STX among the characters, from 0", and the characters between its STX and its ETX
@@ -69,10 +66,10 @@ pub record Run : Type 0 where
 
 -- "from a good STX"
 abbrev pub run_at : Mark → ℕ → Option (List Character) → Option Run
-run_at start place none = none
-run_at start place (some l) = some (record { place = place; body = l })
-run_at finish place rest = none
-run_at inner place rest = none
+run_at start place None = None
+run_at start place (Some l) = Some (record { place = place; body = l })
+run_at finish place rest = None
+run_at inner place rest = None
 
 abbrev pub runs_from : ℕ → List Character → List Run
 runs_from place [] = []
@@ -97,9 +94,9 @@ pub record Finding : Type 0 where
   pub content : Option Confirmation
 
 abbrev pub finding : ℕ → (damaged : Bool) → Option Confirmation → Option Finding
-finding place true content = some (record { place = place; content = none })
-finding place false none = none
-finding place false (some c) = some (record { place = place; content = some c })
+finding place true content = Some (record { place = place; content = None })
+finding place false None = None
+finding place false (Some c) = Some (record { place = place; content = Some c })
 
 abbrev pub found : Run → Option Finding
 found r = finding r.place (any_damaged r.body) (confirmation_of (map byte r.body))
@@ -116,39 +113,39 @@ next n = (n + 1) % 10000
 
 -- "The first is accepted without a gap. A number equal to the one last accepted is reported as repeated ...; any other than the next one ... is
 -- accepted and reported as a gap."
-unfoldable pub judgement_on : LastAccepted → Confirmation → Judgement
-judgement_on NoneYet c = Accepted c
-judgement_on (Number n) c =
+unfoldable pub judgement_on : Option ℕ → Confirmation → Judgement
+judgement_on None c = Accepted c
+judgement_on (Some n) c =
     if eqb c.number n then Repeated c else
     if eqb c.number (next n) then Accepted c else
     Gap c
 
-abbrev pub judgement : LastAccepted → Option Confirmation → Judgement
-judgement last none = Aside
-judgement last (some c) = judgement_on last c
+abbrev pub judgement : Option ℕ → Option Confirmation → Judgement
+judgement last None = Aside
+judgement last (Some c) = judgement_on last c
 
 -- what is accepted, with a gap or without; a repeated one "adds no litres", one that is set aside is "never counted as litres"
 abbrev pub counted : Judgement → Option Confirmation
-counted (Accepted c) = some c
-counted (Gap c) = some c
-counted (Repeated c) = none
-counted Aside = none
+counted (Accepted c) = Some c
+counted (Gap c) = Some c
+counted (Repeated c) = None
+counted Aside = None
 
-abbrev pub last_after : LastAccepted → Option Confirmation → LastAccepted
-last_after last none = last
-last_after last (some c) = Number c.number
+abbrev pub last_after : Option ℕ → Option Confirmation → Option ℕ
+last_after last None = last
+last_after last (Some c) = Some c.number
 
-abbrev pub judge : LastAccepted → Finding → Entry
+abbrev pub judge : Option ℕ → Finding → Entry
 judge last f = record { place = f.place; judgement = judgement last f.content }
 
-abbrev pub judged : LastAccepted → List Finding → List Entry
+abbrev pub judged : Option ℕ → List Finding → List Entry
 judged last [] = []
 judged last (f ∷ fs) = judge last f ∷ judged (last_after last (counted (judge last f).judgement)) fs
 
 -- THE ENTRIES of a list of characters, and THE SUM: "The sum of litres equals the sum over the accepted ones."
 
 abbrev pub entries : List Character → List Entry
-entries cs = judged NoneYet (findings (runs cs))
+entries cs = judged None (findings (runs cs))
 
 abbrev pub accepted : List Entry → List Confirmation
 accepted [] = []
@@ -172,22 +169,22 @@ countable cs = leb (length cs) furthest && leb (sum cs) furthest
 
 -- what an entry says, however it is judged
 abbrev pub said : Judgement → Option Confirmation
-said (Accepted c) = some c
-said (Gap c) = some c
-said (Repeated c) = some c
-said Aside = none
+said (Accepted c) = Some c
+said (Gap c) = Some c
+said (Repeated c) = Some c
+said Aside = None
 
 -- the four columns of the list: of one that is set aside, number and litres are 0
 abbrev pub place_in : Entry → ℕ
 place_in e = e.place
 
 abbrev pub number_of : Option Confirmation → ℕ
-number_of none = 0
-number_of (some c) = c.number
+number_of None = 0
+number_of (Some c) = c.number
 
 abbrev pub litres_of : Option Confirmation → ℕ
-litres_of none = 0
-litres_of (some c) = c.litres
+litres_of None = 0
+litres_of (Some c) = c.litres
 
 abbrev pub number_in : Entry → ℕ
 number_in e = number_of (said e.judgement)
@@ -224,18 +221,18 @@ listed_in es l =
       judgements = front (map judgement_in es) l.judgements;
     }
 
--- The answer, and the list afterwards
+-- The answer, how many entries and the sum or a refusal, and the list afterwards
 pub record Confirmed : Type 0 where
-  pub answer : Listing
+  pub answer : Result Listed Refusal
   pub list : LentList
 
 -- 8 comes first; then "16 if the input has more entries than the lent list has places"
 abbrev pub confirmed_as : List ℕ → LentList → List Character → (rest : List ℕ) → Confirmed
-confirmed_as s l cs (b ∷ rest) = record { answer = Unlisted (BrokenStream (length s - length (b ∷ rest))); list = l }
+confirmed_as s l cs (b ∷ rest) = record { answer = Err (BrokenStream (length s - length (b ∷ rest))); list = l }
 confirmed_as s l cs [] =
     if ltb (places_of l) (length (entries cs)) || not (countable cs)
-    then record { answer = Unlisted TooManyEntries; list = l }
-    else record { answer = Listed (length (entries cs)) (sum cs); list = listed_in (entries cs) l }
+    then record { answer = Err TooManyEntries; list = l }
+    else record { answer = Ok (record { entries = length (entries cs); litres = sum cs }); list = listed_in (entries cs) l }
 
 unfoldable pub confirm : List ℕ → LentList → Confirmed
 confirm s l = confirmed_as s l (readout s).characters (readout s).rest

@@ -1,26 +1,24 @@
 -- 02 h as a text for the fitters: the single setting of a pair, or the table of all 64.
-use Rattle.std.specs.Prelude.{List, [], ◌∷◌, ◌++◌, ℕ}
-use Rattle.std.proofs.Math.Option.{Option, none, some}
+use Rattle.std.specs.Prelude.{List, [], ◌∷◌, ◌++◌, ℕ, Option, None, Some, Result, Ok, Err}
 use Rattle.paper.specs.Text.{text, each}
 use Rattle.paper.specs.Decimal.{number_of, decimal}
 use Rattle.paper.specs.RateLines.{refused_words}
 use Rattle.paper.specs.TwoBoxes.{eight, single, one_ending}
-use Rattle.paper.specs.declared.OneEnding.{OneEnding}
-use Rattle.paper.specs.declared.OneEnding.TheVariants.{Does, NoneDoes, Unanswered}
+use Rattle.paper.specs.declared.Refusal.{Refusal}
 
 -- A PAIR: `0` to `7`, or `none`; or `refused 5 4`
-unfoldable pub ending_words : OneEnding → List ℕ
-ending_words (Does one) = decimal one
-ending_words NoneDoes = text "none"
-ending_words (Unanswered r) = refused_words r
+unfoldable pub ending_words : Result (Option ℕ) Refusal → List ℕ
+ending_words (Ok (Some one)) = decimal one
+ending_words (Ok None) = text "none"
+ending_words (Err r) = refused_words r
 
 -- THE TABLE: each column behind a space, `-` for none
 abbrev pub column : Option ℕ → List ℕ
-column none = text " -"
-column (some one) = text " " ++ decimal one
+column None = text " -"
+column (Some one) = text " " ++ decimal one
 
 unfoldable pub head_line : List ℕ
-head_line = text " " ++ each (λ second. column (some second)) eight ++ text "\n"
+head_line = text " " ++ each (λ second. column (Some second)) eight ++ text "\n"
 
 -- rows are the first box and columns the second, with a head column
 abbrev pub column_of : (first second : ℕ) → List ℕ

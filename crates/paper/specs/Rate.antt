@@ -1,12 +1,12 @@
 -- 02 c: "Choosing the rate." Nothing here says how the choice is found.
-use Rattle.std.specs.Prelude.{Bool, true, not, ◌&&◌, ◌||◌, List, [], ◌∷◌, ◌++◌, ℕ, zero, suc, ◌+◌, ◌-◌, ◌*◌, ltb, ℤ, pos, ◌-ℤ◌, ◌*ℤ◌, if◌then◌else◌}
+use Rattle.std.specs.Prelude.{Bool, true, not, ◌&&◌, ◌||◌, List, [], ◌∷◌, ◌++◌, ℕ, zero, suc, ◌+◌, ◌-◌, ◌*◌, ltb, ℤ, pos, ◌-ℤ◌, ◌*ℤ◌, if◌then◌else◌, Result, Ok, Err}
 use Rattle.std.proofs.Math.Option.{Option, none, some}
 use Rattle.std.specs.Int.Signed.{quot_z}
 use Rattle.paper.specs.Choice.{outside}
+use Rattle.paper.specs.declared.Refusal.{Refusal}
 use Rattle.paper.specs.declared.Refusal.TheVariants.{OutsideRange, TooFar}
 use Rattle.paper.specs.declared.Pair.{Pair}
-use Rattle.paper.specs.declared.Choosing.{Choosing}
-use Rattle.paper.specs.declared.Choosing.TheVariants.{Chosen, Unchosen}
+use Rattle.paper.specs.declared.Chosen.{Chosen}
 
 -- PAIRS: "pick a divisor of 8, 32, 128, 512 or 2048 and a period from 1 to 255."
 
@@ -32,6 +32,10 @@ pairs = rows divisors
 -- "divisor times period"
 abbrev pub divider : Pair → ℕ
 divider p = p.divisor * p.period
+
+-- a pair that is chosen, with its deviation
+abbrev pub deviating : Pair → ℤ → Chosen
+deviating p deviation = record { pair = p; deviation = deviation }
 
 -- TESTS OF A LIST
 
@@ -76,12 +80,12 @@ module _ (clock wanted : ℕ) where
   too_far p = ltb (25000 * (wanted * divider p)) (1000000 * gap (divider p))
 
   -- a list that is not empty has a first of the nearest: none is never told
-  abbrev pub told : Option Pair → Choosing
-  told none = Unchosen TooFar
-  told (some p) = Chosen p (deviation p)
+  abbrev pub told : Option Pair → Result Chosen Refusal
+  told none = Err TooFar
+  told (some p) = Ok (deviating p (deviation p))
 
-  unfoldable pub choose : Choosing
+  unfoldable pub choose : Result Chosen Refusal
   choose =
-      if out_of_range then Unchosen OutsideRange else
-      if every too_far pairs then Unchosen TooFar
+      if out_of_range then Err OutsideRange else
+      if every too_far pairs then Err TooFar
       else told (choice pairs)

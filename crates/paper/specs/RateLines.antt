@@ -1,12 +1,11 @@
 -- 02 c as a text for the fitters: a line for each rate that is asked for.
-use Rattle.std.specs.Prelude.{List, [], ◌∷◌, ◌++◌, map, ℕ, zero, suc, ℤ, pos, negsuc}
+use Rattle.std.specs.Prelude.{List, [], ◌∷◌, ◌++◌, map, ℕ, zero, suc, ℤ, pos, negsuc, Result, Ok, Err}
 use Rattle.paper.specs.Text.{text}
 use Rattle.paper.specs.Decimal.{number_of, decimal}
 use Rattle.paper.specs.Numbers.{refusal_numbers}
 use Rattle.paper.specs.Rate.{choose}
 use Rattle.paper.specs.declared.Refusal.{Refusal}
-use Rattle.paper.specs.declared.Choosing.{Choosing}
-use Rattle.paper.specs.declared.Choosing.TheVariants.{Chosen, Unchosen}
+use Rattle.paper.specs.declared.Chosen.{Chosen}
 
 -- LINES
 
@@ -25,9 +24,9 @@ unfoldable pub refused_words : Refusal → List ℕ
 refused_words r = text "refused" ++ spaced (refusal_numbers r)
 
 -- `DIVISOR PERIOD DEVIATION`; or `refused 12`, `refused 13`
-unfoldable pub choice_words : Choosing → List ℕ
-choice_words (Chosen p deviation) = decimal p.divisor ++ text " " ++ decimal p.period ++ text " " ++ signed deviation
-choice_words (Unchosen r) = refused_words r
+unfoldable pub choice_words : Result Chosen Refusal → List ℕ
+choice_words (Ok c) = decimal c.pair.divisor ++ text " " ++ decimal c.pair.period ++ text " " ++ signed c.deviation
+choice_words (Err r) = refused_words r
 
 -- the rate's word as it came, and the choice
 unfoldable pub rate_line : (clock : ℕ) → (word : List ℕ) → List ℕ

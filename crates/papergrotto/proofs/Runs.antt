@@ -61,7 +61,7 @@ every_list c s [] = subst (λ (d : Channel). Called c [] [] d) s.is done
 every_list c s (call ∷ calls) =
     let r = answered c (given c call) in
     let p = kept {a = told r.answer} (promised c s call r (given c call).lent refl refl) refl refl in
-    then_called p (rw (channel_in_lem card_size (given c call).next) at (every_list r.channel p.sound calls))
+    then_called p (rw (channel_in_lem card_size (given c call).next) at (every_list r.next p.sound calls))
 
 -- A PORT OF A CARD
 

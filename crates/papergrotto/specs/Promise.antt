@@ -10,7 +10,7 @@ use Rattle.telling.specs.Told.{told}
 -- What is told, the record afterwards and the lent bytes afterwards are those of the paper's step on the record as it stood; and the record is sound.
 pub record Promise (before : Channel) (call : ChannelCall) (r : Told) (after : Channel) (lent : List ℕ) : Type 0 where
   pub tells : r ≡ told (given before call).answer
-  pub alters : after ≡ (answered before (given before call)).channel
+  pub alters : after ≡ (answered before (given before call)).next
   pub leaves : lent ≡ (given before call).lent
   pub sound : Sound after
 

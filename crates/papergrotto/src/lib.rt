@@ -10,28 +10,27 @@ ghost use Rattle.paper.specs.Stream as paper;
 ghost use Rattle.paper.specs.Confirmations as confirmations;
 ghost use Rattle.paper.specs.Rate as rates;
 ghost use Rattle.paper.specs.TwoBoxes.{one_ending};
+ghost use Rattle.paper.specs.declared.Answered.{Answered};
+ghost use Rattle.channel.specs.declared.Channel.{Channel};
 ghost use Rattle.channel.specs.Held.{Sound, channel_of};
 ghost use Rattle.channel.specs.Promise.{at_threshold};
 ghost use Rattle.telling.specs.Told.{told, reading_told, listing_told, choosing_told, ending_told};
 ghost use Rattle.confirming.specs.Promise.{columns};
 ghost use Rattle.papergrotto.specs.Promise.{Promise};
 
-use channel::{Answered, Channel};
+use channel::Channel;
+use paper::Answered;
 use telling::Told;
 
-// What is told of a call's answer.
-fn told_of(answered: Answered) -> Told
-    ensures { result ≡ told answered.answer }
+// A call on the record that is lent: what it leaves is stored where the record stood, and what it answers is told.
+fn served<F: FnOnce(Channel) -> Answered<Channel>>(channel: &mut Channel, call: F) -> Told
+    requires { F.pre call channel.old }
+    ensures { (r : Answered Channel) × F.post call channel.old r
+        × (result ≡ told r.answer) × (channel.new ≡ r.next) }
 {
-    let answer = answered.answer;
-    telling::tell(answer)
-}
-
-// The channel after it.
-fn channel_of(answered: Answered) -> Channel
-    ensures { result ≡ answered.channel }
-{
-    answered.channel
+    let answered = call(*channel);
+    *channel = answered.next;
+    telling::tell(answered.answer)
 }
 
 // A fresh record.
@@ -48,10 +47,7 @@ pub extern "C" fn papergrotto_arrive(channel: &mut Channel, kind: u8, byte: u8) 
     requires { Sound channel.old }
     ensures { Promise channel.old (calls.arrive kind byte) result channel.new [] }
 {
-    let old = *channel;
-    let arrived = old.arrive(kind, byte);
-    *channel = channel_of(arrived);
-    told_of(arrived)
+    served(channel, |c| c.arrive(kind, byte))
 }
 
 // "Line turn, one character time", of the channel that is lent.
@@ -60,10 +56,7 @@ pub extern "C" fn papergrotto_turn(channel: &mut Channel) -> Told
     requires { Sound channel.old }
     ensures { Promise channel.old (calls.transmit lines.turn) result channel.new [] }
 {
-    let old = *channel;
-    let turned = old.turn();
-    *channel = channel_of(turned);
-    told_of(turned)
+    served(channel, |c| c.turn())
 }
 
 // "Read n characters", into a lent buffer "from a given place on".
@@ -79,9 +72,9 @@ pub extern "C" fn papergrotto_read(
         result channel.new buffer.new }
 {
     let old = *channel;
-    let read = old.read(n, buffer, place);
-    *channel = channel_of(read);
-    told_of(read)
+    let given = old.read(n, buffer, place);
+    *channel = given.next;
+    telling::tell(given.answer)
 }
 
 // "Load: takes the first min(length, room) bytes; answers that number."
@@ -91,10 +84,7 @@ pub extern "C" fn papergrotto_load(channel: &mut Channel, bytes: &[u8]) -> Told
     ensures { Promise channel.old (calls.transmit (lines.load bytes.now))
         result channel.new bytes.now }
 {
-    let old = *channel;
-    let loaded = old.load(bytes);
-    *channel = channel_of(loaded);
-    told_of(loaded)
+    served(channel, |c| c.load(bytes))
 }
 
 // Settings, as 15 bytes.
@@ -104,10 +94,7 @@ pub extern "C" fn papergrotto_take_settings(channel: &mut Channel, bytes: &[u8])
     ensures { Promise channel.old (calls.take_settings bytes.now)
         result channel.new bytes.now }
 {
-    let old = *channel;
-    let taken = old.take_settings(bytes);
-    *channel = channel_of(taken);
-    told_of(taken)
+    served(channel, |c| c.take_settings(bytes))
 }
 
 // CTS, 0 or 1.
@@ -116,10 +103,7 @@ pub extern "C" fn papergrotto_set_cts(channel: &mut Channel, value: u8) -> Told
     requires { Sound channel.old }
     ensures { Promise channel.old (calls.transmit (lines.set_cts value)) result channel.new [] }
 {
-    let old = *channel;
-    let set = old.set_cts(value);
-    *channel = channel_of(set);
-    told_of(set)
+    served(channel, |c| c.set_cts(value))
 }
 
 // "Special s from 1 to 4: the present special character s waits for the next turn."
@@ -128,10 +112,7 @@ pub extern "C" fn papergrotto_ask_special(channel: &mut Channel, number: u8) -> 
     requires { Sound channel.old }
     ensures { Promise channel.old (calls.transmit (lines.ask_special number)) result channel.new [] }
 {
-    let old = *channel;
-    let asked = old.ask_special(number);
-    *channel = channel_of(asked);
-    told_of(asked)
+    served(channel, |c| c.ask_special(number))
 }
 
 // "State": the record goes by value and stays as it is.

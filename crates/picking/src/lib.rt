@@ -5,20 +5,17 @@ ghost use Rattle.std.specs.Prelude.{◌≡◌, ◌≤◌};
 ghost use Rattle.paper.specs.Card.{round};
 ghost use Rattle.picking.specs.Look.{found};
 
-// The first channel after `place`, going round 0 to 3, that is ready; 4 where none is.
+// The first channel after `place`, going round 0 to 3, that is ready.
 #[tactic(auto, unfolding(crate::specs::Look::found))]
-pub fn look(place: u8, ready: [bool; 4]) -> u8
+pub fn look(place: u8, ready: [bool; 4]) -> Option<u8>
     requires { place ≤ 3 }
     ensures { result ≡ found ready (round place) }
 {
-    let mut k: u8 = 1;
-    while k < 5 {
+    for k in 1..5 {
         let n = (place + k) % 4;
-        let i = n as usize;
-        if ready[i] {
-            return n;
+        if ready[usize::from(n)] {
+            return Some(n);
         }
-        k += 1;
     }
-    4
+    None
 }

@@ -19,10 +19,6 @@ refusal_number r = get_or (refusal_numbers r) 0 0
 abbrev pub longest : ℕ
 longest = 2 * (3 + lent_bytes card_size) + 1
 
--- there is room for a line from a place on
-abbrev pub Room : ℕ → List ℕ → Type 0
-Room at out = at + longest ≤ length out
-
 -- WHAT FITS A LINE. Each number is a byte: those that their types do not bound are named here.
 
 -- "the place of the offending FF"

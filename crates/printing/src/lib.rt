@@ -1,11 +1,13 @@
 // "one line of hexadecimal in capitals": numbers as a line, and the line of each sort of answer.
 #![tactic(auto)]
 
-ghost use Rattle.std.specs.Prelude.{◌≡◌, [], ◌∷◌, ◌+◌, ◌*◌, ◌<◌, ◌≤◌, nat_abs, length, if◌then◌else◌};
+ghost use Rattle.std.specs.Prelude.{◌≡◌, [], ◌∷◌, ◌+◌, ◌*◌, ◌<◌, ◌≤◌, nat_abs, length};
 ghost use Rattle.paper.specs.Numbers.{fate_number, negative, numbers};
-ghost use Rattle.hexadecimal.specs.Written.{Wrote};
-ghost use Rattle.printing.specs.Printed.{refusal_number, line_of, Room, SmallRefusal, SmallRead};
+ghost use Rattle.page.specs.Page.{with_text};
+ghost use Rattle.printing.specs.Printed.{refusal_number, line_of, longest, SmallRefusal, SmallRead};
 
+use hexadecimal::{capitals, put_bytes};
+use page::Page;
 use paper::{Answer, Fate, Refusal, Why};
 
 // The longest line: 00, characters, flagged and the bytes of a read, two capitals each, and a newline.
@@ -13,31 +15,33 @@ pub const LONGEST: usize = 2 * (3 + paper::LENT) + 1;
 
 const NEWLINE: u8 = 10;
 
-// A line of numbers, from a place on; answers the place behind it, as all that put something here do.
-#[tactic(auto, using(crate::proofs::Laws::length_hexadecimal))]
-fn put_numbers(out: &mut [u8], at: usize, numbers: &[u8]) -> usize
-    requires { at + 2 * length numbers.now < length out.old }
-    ensures { Wrote out.old at (line_of numbers.now) out.new result }
+// A line of numbers.
+#[tactic(auto, using(hexadecimal::proofs::Laws::length_hexadecimal))]
+fn put_numbers(page: &mut Page<'_>, numbers: &[u8])
+    requires { 2 * length numbers.now < page.old.room }
+    ensures { page.new ≡ with_text (line_of numbers.now) page.old }
 {
-    let end = hexadecimal::put_bytes(out, at, numbers);
-    out[end] = NEWLINE;
-    end + 1
+    put_bytes(page, numbers);
+    page.push(NEWLINE);
 }
 
 // One number: "00 alone", or a refusal's.
-pub fn put_alone(out: &mut [u8], at: usize, number: u8) -> usize
-    requires { at + 3 ≤ length out.old }
-    ensures { Wrote out.old at (line_of (number ∷ [])) out.new result }
+pub fn put_alone(page: &mut Page<'_>, number: u8)
+    requires { 3 ≤ page.old.room }
+    ensures { page.new ≡ with_text (line_of (number ∷ [])) page.old }
 {
-    put_numbers(out, at, &[number])
+    let [high, low] = capitals(number);
+    page.put_text(&[high, low, NEWLINE]);
 }
 
 // Two numbers: 00 and "fate", "taken", "00" or "the channel picked, FF for none"; or a refusal's and what follows it.
-pub fn put_pair(out: &mut [u8], at: usize, first: u8, second: u8) -> usize
-    requires { at + 5 ≤ length out.old }
-    ensures { Wrote out.old at (line_of (first ∷ second ∷ [])) out.new result }
+pub fn put_pair(page: &mut Page<'_>, first: u8, second: u8)
+    requires { 5 ≤ page.old.room }
+    ensures { page.new ≡ with_text (line_of (first ∷ second ∷ [])) page.old }
 {
-    put_numbers(out, at, &[first, second])
+    let [first_high, first_low] = capitals(first);
+    let [second_high, second_low] = capitals(second);
+    page.put_text(&[first_high, first_low, second_high, second_low, NEWLINE]);
 }
 
 // "Refusal numbers"
@@ -62,36 +66,30 @@ pub fn refusal_number(refusal: Refusal) -> u8
     }
 }
 
-// How large a deviation is, whichever its sign: the least number of 64 bits has no negative of its own.
+// How large a deviation is, whichever its sign: the least number of 64 bits has a size too.
 pub fn deviation_size(deviation: i64) -> usize
     ensures { result ≡ nat_abs deviation }
 {
-    if deviation < 0 {
-        return (-1 - deviation) as usize + 1;
-    }
-    deviation as usize
+    deviation.unsigned_abs() as usize
 }
 
 // "1 where it is negative"
 pub fn negative_number(deviation: i64) -> u8
     ensures { result ≡ negative deviation }
 {
-    if deviation < 0 {
-        return 1;
-    }
-    0
+    u8::from(deviation < 0)
 }
 
 // A refusal's line: "Answers begin with 00 or the refusal number (5 is followed by its field)", and 8 by "the place of the offending FF".
-pub fn put_refused(out: &mut [u8], at: usize, refusal: Refusal) -> usize
-    requires { Room at out.old × SmallRefusal refusal }
-    ensures { Wrote out.old at (line_of (numbers (Answer.Refused refusal) [])) out.new result }
+pub fn put_refused(page: &mut Page<'_>, refusal: Refusal)
+    requires { longest ≤ page.old.room × SmallRefusal refusal }
+    ensures { page.new ≡ with_text (line_of (numbers (Answer.Refused refusal) [])) page.old }
 {
     let number = refusal_number(refusal);
     match refusal {
-        Refusal::BadField(field) => put_pair(out, at, number, field),
-        Refusal::BrokenStream(place) => put_pair(out, at, number, place as u8),
-        _ => put_alone(out, at, number),
+        Refusal::BadField(field) => put_pair(page, number, field),
+        Refusal::BrokenStream(place) => put_pair(page, number, place as u8),
+        _ => put_alone(page, number),
     }
 }
 
@@ -112,58 +110,47 @@ pub fn fate_number(fate: Fate) -> u8
 }
 
 // "characters, flagged, bytes": of the lent bytes those that were written.
-pub fn put_handed(
-    out: &mut [u8],
-    at: usize,
-    characters: usize,
-    flagged: usize,
-    bytes: usize,
-    lent: &[u8],
-) -> usize
-    requires { Room at out.old × SmallRead characters flagged bytes lent.now }
-    ensures { Wrote out.old at
-        (line_of (numbers (Answer.Handed characters flagged bytes) lent.now)) out.new result }
+pub fn put_handed(page: &mut Page<'_>, characters: usize, flagged: usize, bytes: usize, lent: &[u8])
+    requires { longest ≤ page.old.room × SmallRead characters flagged bytes lent.now }
+    ensures { page.new ≡ with_text (line_of (numbers (Answer.Handed characters flagged bytes) lent.now)) page.old }
 {
     let counts = [0, characters as u8, flagged as u8];
-    let start = hexadecimal::put_bytes(out, at, &counts);
-    put_numbers(out, start, &lent[..bytes])
+    put_bytes(page, &counts);
+    put_numbers(page, &lent[..bytes])
 }
 
 // "01 and the byte sent"
-pub fn put_sent(out: &mut [u8], at: usize, byte: u8) -> usize
-    requires { Room at out.old }
-    ensures { Wrote out.old at (line_of (numbers (Answer.Sent byte) [])) out.new result }
+pub fn put_sent(page: &mut Page<'_>, byte: u8)
+    requires { longest ≤ page.old.room }
+    ensures { page.new ≡ with_text (line_of (numbers (Answer.Sent byte) [])) page.old }
 {
-    put_numbers(out, at, &[0, 1, byte])
-}
-
-// "stopped (1) or running (0)"
-fn stopped_number(stopped: bool) -> u8
-    ensures { result ≡ (if stopped then 1 else 0) }
-{
-    if stopped { 1 } else { 0 }
+    let [high, low] = capitals(byte);
+    page.put_text(&[b'0', b'0', b'0', b'1', high, low, NEWLINE]);
 }
 
 // "waiting, transmit waiting, stopped, loss high, loss low"
-pub fn put_shown(
-    out: &mut [u8],
-    at: usize,
-    waiting: usize,
-    sending: usize,
-    stopped: bool,
-    losses: u16,
-) -> usize
-    requires { Room at out.old × ((waiting < 256) × (sending < 256)) }
-    ensures { Wrote out.old at
-        (line_of (numbers (Answer.Shown waiting sending stopped losses) [])) out.new result }
+pub fn put_shown(page: &mut Page<'_>, waiting: usize, sending: usize, stopped: bool, losses: u16)
+    requires { longest ≤ page.old.room × ((waiting < 256) × (sending < 256)) }
+    ensures { page.new ≡ with_text (line_of (numbers (Answer.Shown waiting sending stopped losses) [])) page.old }
 {
-    let numbers = [
-        0,
-        waiting as u8,
-        sending as u8,
-        stopped_number(stopped),
-        (losses / 256) as u8,
-        (losses % 256) as u8,
-    ];
-    put_numbers(out, at, &numbers)
+    let [waiting_high, waiting_low] = capitals(waiting as u8);
+    let [sending_high, sending_low] = capitals(sending as u8);
+    let [stopped_high, stopped_low] = capitals(u8::from(stopped));
+    let [losses_1, losses_2] = capitals((losses / 256) as u8);
+    let [losses_3, losses_4] = capitals((losses % 256) as u8);
+    page.put_text(&[
+        b'0',
+        b'0',
+        waiting_high,
+        waiting_low,
+        sending_high,
+        sending_low,
+        stopped_high,
+        stopped_low,
+        losses_1,
+        losses_2,
+        losses_3,
+        losses_4,
+        NEWLINE,
+    ]);
 }

@@ -4,17 +4,17 @@ use mathlib.Core.List.{List, [], ◌∷◌, ◌++◌, map, map-append}
 use mathlib.Core.Path.{◌≡◌, refl, ap, ap₂, sym, ◌∙◌}
 use Prim.Native.Nat.{ℕ, zero, suc, ◌+◌, ◌-◌, ◌≤◌, ◌<◌, min}
 use native.Mathlib.Omega.{arith}
-use native.Mathlib.Numerals.{add-one}
 use lib.Dec.{eqb}
-use lib.ListN.{length, take, drop, set, get_or, replicate, length-append, length-map, length-drop, length-take}
+use lib.ListN.{length, take, drop, set, replicate, length-append, length-map, length-drop, length-take}
 use lib.Seq.{take_at, take-append-le}
-use Rattle.std.specs.Prelude.{if◌then◌else◌}
+use Rattle.std.specs.Prelude.{cond, if◌then◌else◌}
+use Rattle.std.proofs.lemmas.List.Sums.{sum_by-cons}
 use Rattle.paper.specs.Queue as model
 use Rattle.paper.specs.Queue.{flagged, flag_newest, stored, overrun, removed, oldest, items_of, overruns}
 use Rattle.paper.specs.declared.Item.{Item}
 use Rattle.demands.proofs.Placing.{length-flag_newest}
 use Rattle.arrays.specs.Padded.{padded}
-use Rattle.arrays.proofs.Laws.{padded_length, padded_put, padded_set, padded_drop, take_min, drop_min}
+use Rattle.arrays.proofs.Laws.{padded_put, padded_set, padded_drop, take_min, drop_min}
 use Rattle.images.specs.Code.{kind_of, byte_of, item_in, items_in}
 use Rattle.images.proofs.Laws.{item_in_lem}
 use Rattle.queue.specs.declared.Queue.{Queue}
@@ -49,27 +49,6 @@ count_is places d q s = ap (λ (x : Queue). x.count) s.is
 -- a record that is sound at a depth within its places is sound at all of them
 pub deeper : (places d : ℕ) (q : Queue) → SoundIn places d q → d ≤ places → SoundIn places places q
 deeper places d q s fits = record { is = s.is; waiting = omega (arith, s.waiting); losses = s.losses }
-
--- each array has all its places
-module _ (places d : ℕ) (q : Queue) (s : SoundIn places d q) (fits : d ≤ places) where
-  array_long : (f : Slot → ℕ) (array : Queue → List ℕ) → array (queue_of places (queue_in q)) ≡ padded places (map f (queue_in q).slots)
-      → length (array q) ≡ places
-  array_long f array e =
-      let l = (queue_in q).slots in
-      let fewer : length (map f l) ≤ places = rw length-map (omega (arith, s.waiting)) in
-      ap (λ (x : Queue). length (array x)) s.is ∙ ap length e ∙ padded_length places (map f l) fewer
-
-  pub kinds_long : length q.kinds ≡ places
-  unfolding queue_of
-  kinds_long = array_long kind (λ (x : Queue). x.kinds) refl
-
-  pub bytes_long : length q.bytes ≡ places
-  unfolding queue_of
-  bytes_long = array_long byte (λ (x : Queue). x.bytes) refl
-
-  pub flags_long : length q.flags ≡ places
-  unfolding queue_of
-  flags_long = array_long flag (λ (x : Queue). x.flags) refl
 
 -- STORING
 
@@ -179,32 +158,17 @@ close_sound places d n q s h m =
 
 -- HANDING OVER
 
-pub ones_more : (l : List ℕ) (i : ℕ) → i < length l → ones (take (i + 1) l) ≡ (if eqb (get_or l i 0) 1 then suc (ones (take i l)) else ones (take i l))
-ones_more l i h = rw add-one (go l i h)
-  where
-    swap : (s t : Bool) (n : ℕ) → ◌≡◌ {A = ℕ} (if s then suc (if t then suc n else n) else (if t then suc n else n))
-        (if t then suc (if s then suc n else n) else (if s then suc n else n))
-    swap true true n = refl
-    swap true false n = refl
-    swap false true n = refl
-    swap false false n = refl
-
-    go : (l : List ℕ) (i : ℕ) → i < length l → ones (take (suc i) l) ≡ (if eqb (get_or l i 0) 1 then suc (ones (take i l)) else ones (take i l))
-    go [] i h = absurd (omega arith)
-    go (x ∷ l) zero h = refl
-    go (x ∷ l) (suc i) h = rw (go l i (omega arith)) (swap (eqb x 1) (eqb (get_or l i 0) 1) (ones (take i l)))
-
 items_in_lem : (l : List Slot) → items_in (map kind l) (map byte l) ≡ items_of l
 items_in_lem [] = refl
 items_in_lem (x ∷ l) = ap₂ (λ (i : Item) (m : List Item). i ∷ m) (item_in_lem x.item) (items_in_lem l)
 
 ones_flags : (l : List Slot) → ones (map flag l) ≡ overruns l
 ones_flags [] = refl
-ones_flags (x ∷ l) = go x.over (ones_flags l)
+ones_flags (x ∷ l) = sum_by-cons _ (flag x) (map flag l) ∙ go x.over (ones_flags l)
   where
-    go : (o : Bool) {n m : ℕ} → n ≡ m → (if eqb (if o then 1 else 0) 1 then suc n else n) ≡ (if o then suc m else m)
-    go true e = ap suc e
-    go false e = e
+    go : (o : Bool) {n m : ℕ} → n ≡ m → cond (eqb (if o then 1 else 0) 1) 1 0 + n ≡ (if o then suc m else m)
+    go true e = omega (arith, e)
+    go false e = omega (arith, e)
 
 map-take : (f : Slot → ℕ) (n : ℕ) (l : List Slot) → take n (map f l) ≡ map f (take n l)
 map-take f zero l = refl
@@ -216,10 +180,6 @@ front : (f : Slot → ℕ) (places n : ℕ) (l : List Slot) → take (min n (len
 front f places n l =
     let h : min n (length l) ≤ length (map f l) = rw length-map (omega arith) in
     rw (take-append-le (min n (length l)) (map f l) (replicate (places - length (map f l)) 0) h, map-take, take_min)
-
-pub queue_losses : (places d : ℕ) (q : Queue) → SoundIn places d q → q.losses ≤ 65535
-unfolding queue_in
-queue_losses places d q s = s.losses
 
 -- k of n leave a sound record
 module _ (places d n : ℕ) (q : Queue) (s : SoundIn places d q) (k : ℕ) (e : k ≡ min n q.count) where
@@ -243,16 +203,3 @@ module _ (places d n : ℕ) (q : Queue) (s : SoundIn places d q) (k : ℕ) (e : 
 
   pub left : removed k (queue_in q) ≡ removed n (queue_in q)
   left = rw count_min (ap (λ (l : List Slot). record { slots = l; losses = (queue_in q).losses }) (drop_min n (queue_in q).slots))
-
-  module _ (fits : d ≤ places) where
-    fewer : k ≤ places
-    fewer = omega (arith, count_min, s.waiting)
-
-    pub kinds_hold : k ≤ length q.kinds
-    kinds_hold = rw (kinds_long places d q s fits) fewer
-
-    pub bytes_hold : k ≤ length q.bytes
-    bytes_hold = rw (bytes_long places d q s fits) fewer
-
-    pub flags_hold : k ≤ length q.flags
-    flags_hold = rw (flags_long places d q s fits) fewer

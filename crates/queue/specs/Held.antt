@@ -1,9 +1,10 @@
 -- The record that holds the paper's queue, and the queue that a record holds.
-use Rattle.std.specs.Prelude.{List, [], ◌∷◌, map, ◌≡◌, ℕ, suc, ◌≤◌, eqb, length, take, if◌then◌else◌}
+use Rattle.std.specs.Prelude.{List, [], ◌∷◌, map, ◌≡◌, ℕ, ◌≤◌, eqb, ◌==◌, count_by, length, take, if◌then◌else◌, Result}
 use Rattle.paper.specs.Settings.{card_size}
 use Rattle.paper.specs.Queue as model
 use Rattle.paper.specs.Stream.{images}
-use Rattle.paper.specs.declared.Ruling.{Ruling}
+use Rattle.paper.specs.declared.Item.{Item}
+use Rattle.paper.specs.declared.Why.{Why}
 use Rattle.arrays.specs.Padded.{padded}
 use Rattle.images.specs.Code.{kind_of, byte_of, item_in}
 use Rattle.queue.specs.declared.Queue.{Queue}
@@ -66,15 +67,14 @@ abbrev pub Sound : Queue → Type 0
 Sound q = SoundIn places places q
 
 -- what an arrival's ruling does
-unfoldable pub placing : (places d : ℕ) → Queue → Ruling → Placed
+unfoldable pub placing : (places d : ℕ) → Queue → Result Item Why → Placed
 placing places d q r =
     let p = model.place d tt r (queue_in q) in
     record { fate = p.fate; queue = queue_of places p.queue }
 
 -- how many flags are set
 abbrev pub ones : List ℕ → ℕ
-ones [] = 0
-ones (f ∷ l) = if eqb f 1 then suc (ones l) else ones l
+ones = count_by (λ f. f == 1)
 
 -- what a read of n gives
 unfoldable pub handing : (places : ℕ) → Queue → (n : ℕ) → Handed

@@ -7,6 +7,7 @@
 ghost use Rattle.std.specs.Prelude.{◌+◌, ◌*◌, ◌≤◌, length};
 ghost use Rattle.fitting.specs.Lines.{longest, longest_line};
 
+use page::Page;
 use standard::{read_word, word_count, write_text};
 use std::env::Env;
 
@@ -26,8 +27,9 @@ fn say_usage(rt: &impl Eprint) {
 fn write_usual(rt: &(impl Print + Eprint), clock: u32, out: &mut [u8])
     requires { 20 * longest_line ≤ length out.old }
 {
-    let put = fitting::put_usual(out, 0, clock);
-    write_text(rt, &out[..put]);
+    let mut page = Page::on(out);
+    fitting::put_usual(&mut page, clock);
+    write_text(rt, page.text());
 }
 
 // The line of one word; whether the next one can follow.
@@ -43,8 +45,9 @@ fn write_rate(
     let Some(long) = read_word(rt, "RATE", i, word) else {
         return false;
     };
-    let put = fitting::put_rate(out, 0, clock, &word[..long]);
-    write_text(rt, &out[..put])
+    let mut page = Page::on(out);
+    fitting::put_rate(&mut page, clock, &word[..long]);
+    write_text(rt, page.text())
 }
 
 fn main(rt: HostRuntime) {
@@ -63,11 +66,9 @@ fn main(rt: HostRuntime) {
         write_usual(&rt, clock, &mut out);
         return;
     }
-    let mut i = 2;
-    while i < count {
+    for i in 2..count {
         if !write_rate(&rt, clock, i, &mut word, &mut out) {
             return;
         }
-        i += 1;
     }
 }

@@ -12,14 +12,13 @@ use borrow.Author.Tests.{ltb-true, ltb-false, lt-ltb, le-ltb, not-true}
 use lib.Dec.{ltb}
 use lib.IntN.{ℤ, pos, negsuc, neg_ℤ, nat_abs, ◌-ℤ◌, ◌*ℤ◌}
 use lib.Signed.{quot_z}
-use Rattle.std.specs.Prelude.{if◌then◌else◌}
-use Rattle.paper.specs.Choice.{outside}
+use Rattle.std.specs.Prelude.{if◌then◌else◌, Result, Ok, Err}
 use Rattle.paper.specs.Numbers.{negative}
-use Rattle.paper.specs.Rate.{pair, row, divisors, rows, pairs, divider, every, first_of, gap, nearer, unbeaten, choice, deviation, out_of_range, too_far, told, choose}
+use Rattle.paper.specs.Rate.{pair, row, divisors, rows, pairs, divider, every, first_of, gap, nearer, unbeaten, choice, deviation, out_of_range, too_far, deviating, told, choose}
 use Rattle.paper.specs.declared.Refusal.TheVariants.{OutsideRange, TooFar}
 use Rattle.paper.specs.declared.Pair.{Pair}
-use Rattle.paper.specs.declared.Choosing.{Choosing}
-use Rattle.paper.specs.declared.Choosing.TheVariants.{Chosen, Unchosen}
+use Rattle.paper.specs.declared.Refusal.{Refusal}
+use Rattle.paper.specs.declared.Chosen.{Chosen}
 use Rattle.demands.specs.Confirmations.{Ascending}
 use Rattle.rates.specs.Looks.{best}
 use Rattle.rates.specs.Rates.{InRange, Allowed, Before, AtMost, Far, EveryFar, Deviates, Right, Says, outside as out, far, chosen, Rates, Exactly}
@@ -34,10 +33,12 @@ neither : (t u : Bool) → (t || u) ≡ false → (t ≡ false) × (u ≡ false)
 neither true u e = absurd (true≢false e)
 neither false u e = (refl, e)
 
-pub in_range : (clock wanted : ℕ) → outside 1000000 60000000 clock ≡ false → outside 1 230400 wanted ≡ false → InRange clock wanted
-in_range clock wanted e f =
-    let clocks = neither _ _ e in
-    let rates = neither _ _ f in
+pub in_range : (clock wanted : ℕ) → out_of_range clock wanted ≡ false → InRange clock wanted
+unfolding out_of_range
+in_range clock wanted e =
+    let ranges = neither _ _ e in
+    let clocks = neither _ _ ranges.0 in
+    let rates = neither _ _ ranges.1 in
     record {
       slow = ltb-false _ _ clocks.0;
       fast = ltb-false _ _ clocks.1;
@@ -49,12 +50,6 @@ pub not_out_of_range : (clock wanted : ℕ) → InRange clock wanted → out_of_
 unfolding out_of_range
 not_out_of_range clock wanted r =
     rw (le-ltb clock 1000000 r.slow, le-ltb 60000000 clock r.fast, le-ltb wanted 1 r.some, le-ltb 230400 wanted r.most)
-
-range_of : (clock wanted : ℕ) → out_of_range clock wanted ≡ false → InRange clock wanted
-unfolding out_of_range
-range_of clock wanted e =
-    let ranges = neither (outside 1000000 60000000 clock) (outside 1 230400 wanted) e in
-    in_range clock wanted ranges.0 ranges.1
 
 -- WHAT IS KEPT BY SINGLE LOOKS
 
@@ -93,7 +88,7 @@ module _ (clock wanted : ℕ) (running : 1 ≤ clock) where
   -- so the choice is what single looks keep, unless even that is too far
   pub by_looks : out_of_range clock wanted ≡ false
       → choose clock wanted
-      ≡ (if too_far clock wanted (best near start pairs) then Unchosen TooFar else Chosen (best near start pairs) (deviation clock wanted (best near start pairs)))
+      ≡ (if too_far clock wanted (best near start pairs) then Err TooFar else Ok (deviating (best near start pairs) (deviation clock wanted (best near start pairs))))
   unfolding choose
   by_looks e = rw (e, far_is_kept, choice_is_kept)
 
@@ -388,7 +383,7 @@ module _ (clock wanted : ℕ) (r : InRange clock wanted) where
   every_far h q a = ltb-true _ _ (every_rows (too_far clock wanted) divisors h q (within a))
 
   served : (t : Bool) → every (too_far clock wanted) pairs ≡ t → (o : Option Pair) → choice clock wanted pairs ≡ o
-      → Says clock wanted (if t then Unchosen TooFar else told clock wanted o)
+      → Says clock wanted (if t then Err TooFar else told clock wanted o)
   served true h o e = far r (every_far h)
   served false h none e = absurd (none-ne-some _ (sym e ∙ choice_is_kept clock wanted running))
   served false h (some p) e = chosen r (right p e h)
@@ -398,18 +393,18 @@ unfolding choose
 rates clock wanted =
     choices.chosen (Says clock wanted) (out_of_range clock wanted)
     (λ e. out (λ r. true≢false (sym e ∙ not_out_of_range clock wanted r)))
-    (λ e. served clock wanted (range_of clock wanted e) (every (too_far clock wanted) pairs) refl (choice clock wanted pairs) refl)
+    (λ e. served clock wanted (in_range clock wanted e) (every (too_far clock wanted) pairs) refl (choice clock wanted pairs) refl)
 
 module _ (clock wanted : ℕ) where
-  refused_outside : (InRange clock wanted → ⊥) → (a : Choosing) → Says clock wanted a → a ≡ Unchosen OutsideRange
+  refused_outside : (InRange clock wanted → ⊥) → (a : Result Chosen Refusal) → Says clock wanted a → a ≡ Err OutsideRange
   refused_outside beyond a (out h) = refl
   refused_outside beyond a (far r h) = absurd (beyond r)
   refused_outside beyond a (chosen r h) = absurd (beyond r)
 
-  refused_far : InRange clock wanted → EveryFar clock wanted → (a : Choosing) → Says clock wanted a → a ≡ Unchosen TooFar
+  refused_far : InRange clock wanted → EveryFar clock wanted → (a : Result Chosen Refusal) → Says clock wanted a → a ≡ Err TooFar
   refused_far r every a (out h) = absurd (h r)
   refused_far r every a (far s h) = refl
-  refused_far r every a (chosen {p = p} s h) = absurd (h.near (every p h.allowed))
+  refused_far r every a (chosen {c = c} s h) = absurd (h.near (every c.pair h.allowed))
 
 pub exactly : (clock wanted : ℕ) → Exactly clock wanted
 exactly clock wanted =

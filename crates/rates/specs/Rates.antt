@@ -1,13 +1,13 @@
 -- WHAT REQUEST c DEMANDS of the choice, as a type: it is allowed, none of the 1275 pairs is nearer, and each refusal is given exactly where it has to be.
 -- To be read with 02 c beside it; what is quoted is the request's.
-use Rattle.std.specs.Prelude.{◌≡◌, ◌⊎◌, ℕ, suc, ◌*◌, ◌≤◌, ◌<◌, ℤ, pos, nat_abs}
+use Rattle.std.specs.Prelude.{◌≡◌, ◌⊎◌, ℕ, suc, ◌*◌, ◌≤◌, ◌<◌, ℤ, pos, nat_abs, Result, Ok, Err}
 use mathlib.Core.List.{Memᴰ}
 use Rattle.paper.specs.Numbers.{negative}
 use Rattle.paper.specs.Rate.{divisors, divider, gap, choose}
+use Rattle.paper.specs.declared.Refusal.{Refusal}
 use Rattle.paper.specs.declared.Refusal.TheVariants.{OutsideRange, TooFar}
 use Rattle.paper.specs.declared.Pair.{Pair}
-use Rattle.paper.specs.declared.Choosing.{Choosing}
-use Rattle.paper.specs.declared.Choosing.TheVariants.{Chosen, Unchosen}
+use Rattle.paper.specs.declared.Chosen.{Chosen}
 
 -- "a clock (1,000,000 to 60,000,000 Hz) and a wanted rate (1 to 230,400)"
 pub record InRange (clock wanted : ℕ) : Type 0 where
@@ -53,15 +53,15 @@ module _ (clock wanted : ℕ) where
     pub deviates : Deviates p deviation
 
   -- what an answer says of a clock and a wanted rate
-  pub data Says : Choosing → Type 0 where
-    outside : (InRange clock wanted → ⊥) → Says (Unchosen OutsideRange)
-    far : InRange clock wanted → EveryFar → Says (Unchosen TooFar)
-    chosen : {p : Pair} {deviation : ℤ} → InRange clock wanted → Right p deviation → Says (Chosen p deviation)
+  pub data Says : Result Chosen Refusal → Type 0 where
+    outside : (InRange clock wanted → ⊥) → Says (Err OutsideRange)
+    far : InRange clock wanted → EveryFar → Says (Err TooFar)
+    chosen : {c : Chosen} → InRange clock wanted → Right c.pair c.deviation → Says (Ok c)
 
 abbrev pub Rates : Type 0
 Rates = (clock wanted : ℕ) → Says clock wanted (choose clock wanted)
 
 -- "exactly if": each refusal is given wherever what it says holds
 pub record Exactly (clock wanted : ℕ) : Type 0 where
-  pub twelve : (InRange clock wanted → ⊥) → choose clock wanted ≡ Unchosen OutsideRange
-  pub thirteen : InRange clock wanted → EveryFar clock wanted → choose clock wanted ≡ Unchosen TooFar
+  pub twelve : (InRange clock wanted → ⊥) → choose clock wanted ≡ Err OutsideRange
+  pub thirteen : InRange clock wanted → EveryFar clock wanted → choose clock wanted ≡ Err TooFar

@@ -1,27 +1,24 @@
 -- The words of a refusal.
-use mathlib.Core.List.{List, [], ◌∷◌, ◌++◌, append-nil}
+use mathlib.Core.List.{[], ◌∷◌, ◌++◌, append-nil}
 use mathlib.Core.Path.{◌≡◌}
-use Prim.Native.Nat.{ℕ}
+use Prim.Native.Nat.{ℕ, ◌≤◌}
+use native.Mathlib.Omega.{arith}
+use lib.ListN.{length, length-append}
 use Rattle.paper.specs.Text.{text}
 use Rattle.paper.specs.Decimal.{decimal}
 use Rattle.paper.specs.Numbers.{refusal_numbers}
-use Rattle.paper.specs.RateLines.{spaced, refused_words}
+use Rattle.paper.specs.RateLines.{refused_words}
 use Rattle.paper.specs.declared.Refusal.{Refusal}
-use Rattle.hexadecimal.specs.Written.{Wrote}
-use Rattle.hexadecimal.proofs.Laws.{wrote_none, wrote_then}
-use Rattle.printing.specs.Printed.{refusal_number}
+use Rattle.refusing.specs.Words.{longest_refusal}
 
-module _ (r : Refusal) {number : ℕ} (n : number ≡ refusal_number r) {before between : List ℕ} {at middle : ℕ}
-    (w : Wrote before at (text "refused " ++ decimal number) between middle) where
-  -- its number, and whatever follows it
-  refused : {first : ℕ} {rest after : List ℕ} {end : ℕ} → refusal_numbers r ≡ first ∷ rest → Wrote between middle (spaced rest) after end
-      → Wrote before at (refused_words r) after end
-  unfolding refused_words
-  refused e v = (let same = rw e at n in rw (e, ← same) (wrote_then w v))
+-- one number
+pub alone : (r : Refusal) (n : ℕ) → refusal_numbers r ≡ n ∷ [] → refused_words r ≡ text "refused " ++ decimal n
+unfolding refused_words
+alone r n e = rw (e, append-nil (decimal n))
 
-  pub refused_alone : refusal_numbers r ≡ refusal_number r ∷ [] → Wrote before at (refused_words r) between middle
-  refused_alone e = refused e wrote_none
-
-  pub refused_with : {first value : ℕ} {after : List ℕ} {end : ℕ} → refusal_numbers r ≡ first ∷ value ∷ []
-      → Wrote between middle (text " " ++ decimal value) after end → Wrote before at (refused_words r) after end
-  refused_with {first} {value} e v = refused e (rw (← append-nil (decimal value)) at v)
+-- and what follows it
+pub short_with : (r : Refusal) (n value : ℕ) → refusal_numbers r ≡ n ∷ value ∷ [] → length (decimal n) ≤ 3 → length (decimal value) ≤ 20
+    → length (refused_words r) ≤ longest_refusal
+unfolding refused_words
+short_with r n value e few long =
+    rw (e, append-nil (decimal value), length-append (decimal n) (text " " ++ decimal value)) (omega (arith, few, long))

@@ -5,7 +5,7 @@ use mathlib.Core.Path.{◌≡◌, refl, sym, ap, ◌∙◌}
 use Prim.Native.Nat.{ℕ}
 use native.Mathlib.Omega.{arith}
 use lib.Dec.{eqb}
-use lib.ListN.{length, take, drop, drop_of_length-le}
+use lib.ListN.{length, drop, drop_of_length-le}
 use Rattle.std.specs.Prelude.{if◌then◌else◌}
 use Rattle.paper.specs.Stream.{Character, readout}
 use Rattle.paper.specs.Confirmations.{entries}
@@ -20,14 +20,13 @@ use Rattle.reporting.specs.Program.{ReportedFrom, at_end, last_put, then_reporte
 piece_whole : {piece : List ℕ} {at : ℕ} {s t : Search} {output : List ℕ} {over : Bool} → ReportedFrom piece at s output over t → (rest : List ℕ)
     → output ++ still_of over t rest ≡ left_of s (drop at piece ++ rest)
 piece_whole {piece = piece} at_end rest = rw (drop_of_length-le piece {i = length piece} (omega arith))
-piece_whole {piece = piece} (last_put out out' r reports e) rest =
-    ap (λ (o : Bool). take r.put out' ++ still_of o r.search (drop r.at piece ++ rest)) (sym e) ∙ reports.whole rest
-piece_whole {piece = piece} {t = t} {over = over} (then_reported out out' output r reports e more) rest =
-    let first = take r.put out' in
-    append_assoc first output (still_of over t rest)
-    ∙ ap (λ (x : List ℕ). first ++ x) (piece_whole more rest)
-    ∙ ap (λ (o : Bool). first ++ still_of o r.search (drop r.at piece ++ rest)) (sym e)
-    ∙ reports.whole rest
+piece_whole {piece = piece} (last_put blank page r nothing reports e) rest =
+    ap (λ (o : Bool). page.text ++ still_of o r.search (drop r.at piece ++ rest)) (sym e) ∙ rw nothing at (reports.whole rest)
+piece_whole {piece = piece} {t = t} {over = over} (then_reported blank page output r nothing reports e more) rest =
+    append_assoc page.text output (still_of over t rest)
+    ∙ ap (page.text ++◌) (piece_whole more rest)
+    ∙ ap (λ (o : Bool). page.text ++ still_of o r.search (drop r.at piece ++ rest)) (sym e)
+    ∙ rw nothing at (reports.whole rest)
 
 whole : {s t : Search} {input output : List ℕ} {over : Bool} → Ran s input output over t → (rest : List ℕ)
     → output ++ still_of over t rest ≡ left_of s (input ++ rest)
@@ -62,8 +61,8 @@ from_beginning input =
 pub sheet_as_the_paper : SheetAsThePaper
 sheet_as_the_paper =
     record {
-      ended = λ t input output out put ran finishes.
-          ap (λ (last : List ℕ). output ++ last) finishes.last
+      ended = λ t input output blank page ran nothing finishes.
+          ap (λ (last : List ℕ). output ++ last) (rw (finishes, nothing) refl)
           ∙ whole ran []
           ∙ ap (left_of beginning) (append-nil input)
           ∙ from_beginning input;

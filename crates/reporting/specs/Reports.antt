@@ -1,12 +1,13 @@
 -- What reporting a piece of a stream promises.
-use Rattle.std.specs.Prelude.{Bool, true, false, List, [], ◌++◌, ◌≡◌, ℕ, ◌≤◌, ◌<◌, length, take, drop}
+use Rattle.std.specs.Prelude.{Bool, true, false, List, [], ◌++◌, ◌≡◌, ℕ, ◌≤◌, ◌<◌, length, drop, Option, Some, None}
 use Rattle.paper.specs.Yield.{line_of, lines_of, litres_line, broken_line, full_line}
-use Rattle.finding.specs.Search.{Ending, ended, broken, full, Outcome, outcome}
+use Rattle.finding.specs.Search.{Ending, ended, broken, full, stopped, Outcome, outcome}
 use Rattle.finding.specs.Bounds.{SoundSearch}
 use Rattle.finding.specs.declared.Search.{Search}
-use Rattle.finding.specs.declared.Told.{Told}
-use Rattle.finding.specs.declared.Told.TheVariants.{Nothing, One, Broken, Full}
-use Rattle.sheet.specs.Lines.{Room}
+use Rattle.finding.specs.declared.Stop.{Stop}
+use Rattle.paper.specs.declared.Entry.{Entry}
+use Rattle.page.specs.Page.{Page, with_text}
+use Rattle.sheet.specs.Lines.{longest}
 use Rattle.reporting.specs.declared.Reported.{Reported}
 
 -- the last line
@@ -28,30 +29,24 @@ still_of true s rest = []
 still_of false s rest = left_of s rest
 
 -- the line of what a byte tells
-unfoldable pub told_line : Told → List ℕ
-told_line Nothing = []
-told_line (One entry) = line_of entry
-told_line (Broken place) = broken_line place
-told_line (Full place) = full_line place
+unfoldable pub told_line : Option Entry → List ℕ
+told_line None = []
+told_line (Some entry) = line_of entry
 
--- whether that is the last line
-unfoldable pub is_last : Told → Bool
-is_last Nothing = false
-is_last (One entry) = false
-is_last (Broken place) = true
-is_last (Full place) = true
+-- and the last line, where nothing follows
+unfoldable pub stop_line : Stop → List ℕ
+stop_line e = ending_line (stopped e)
 
 -- What was written, and after it what is still to be written for all that is left, is what was to be written for the whole: the piece from the place
 -- on, and whatever comes after the piece. So it does not matter where the input is cut.
-pub record Reports (s : Search) (piece : List ℕ) (from : ℕ) (out : List ℕ) (put : ℕ) (r : Reported) (out' : List ℕ) : Type 0 where
-  pub whole : (rest : List ℕ) → take r.put out' ++ still_of r.over r.search (drop r.at piece ++ rest)
-      ≡ take put out ++ left_of s (drop from piece ++ rest)
+pub record Reports (s : Search) (piece : List ℕ) (from : ℕ) (before : Page) (r : Reported) (after : Page) : Type 0 where
+  pub whole : (rest : List ℕ) → after.text ++ still_of r.over r.search (drop r.at piece ++ rest)
+      ≡ before.text ++ left_of s (drop from piece ++ rest)
   pub sound : SoundSearch r.search
-  pub onward : from < length piece → Room put out → from < r.at
+  pub onward : from < length piece → longest ≤ before.room → from < r.at
   pub within : r.at ≤ length piece
-  pub room : r.put ≤ length out
+  pub same : after.capacity ≡ before.capacity
 
--- what is left at the input's end, in the front of a buffer
-pub record Finishes (s : Search) (out : List ℕ) (put : ℕ) : Type 0 where
-  pub last : take put out ≡ left_of s []
-  pub room : put ≤ length out
+-- what is left at the input's end
+abbrev pub Finishes : Search → (before after : Page) → Type 0
+Finishes s before after = after ≡ with_text (left_of s []) before

@@ -1,5 +1,5 @@
 -- How long lines of the yield sheet get.
-use Rattle.std.specs.Prelude.{List, ℕ, ◌+◌, ◌≤◌, length}
+use Rattle.std.specs.Prelude.{ℕ, ◌+◌}
 
 -- a number of four digits, a space, litres of ten digits, since they are below 2 ^ 32, and a newline
 abbrev pub longest_said : ℕ
@@ -12,7 +12,3 @@ longest_judgement = 9 + longest_said
 -- The longest line: a place of 20 digits, since it is below 2 ^ 64, a space, and how the entry is judged
 abbrev pub longest : ℕ
 longest = 20 + 1 + longest_judgement
-
--- there is room for a line from a place on
-abbrev pub Room : ℕ → List ℕ → Type 0
-Room at out = at + longest ≤ length out

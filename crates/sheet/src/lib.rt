@@ -5,10 +5,11 @@ ghost use Rattle.std.specs.Prelude.{◌≡◌, ◌++◌, ◌+◌, ◌<◌, ◌�
 ghost use Rattle.paper.specs.Text.{text};
 ghost use Rattle.paper.specs.Decimal.{decimal};
 ghost use Rattle.paper.specs.Yield.{words, judgement_words, line_of, litres_line, broken_line, full_line};
-ghost use Rattle.hexadecimal.specs.Written.{Wrote};
-ghost use Rattle.sheet.specs.Lines.{Room, longest_said, longest_judgement};
+ghost use Rattle.page.specs.Page.{with_text};
+ghost use Rattle.sheet.specs.Lines.{longest, longest_said, longest_judgement};
 
-use decimal::{put_behind, put_decimal, put_digits, put_text};
+use decimal::{put_behind, put_decimal};
+use page::Page;
 use paper::{Confirmation, Entry, Judgement};
 
 // The longest line: a place of 20 digits, a space, "repeated ", a number of four digits, a space, litres of ten digits, and a newline. The longest
@@ -16,75 +17,73 @@ use paper::{Confirmation, Entry, Judgement};
 pub const LONGEST: usize = 20 + 1 + 9 + 4 + 1 + 10 + 1;
 
 // A text, a number and a newline: each of the last lines, and the end of an entry's.
-#[tactic(auto, using(hexadecimal::proofs::Laws::wrote_then))]
-fn put_line(out: &mut [u8], at: usize, told: &[u8], number: usize) -> usize
-    requires { at + length told.now + length (decimal number) < length out.old }
-    ensures { Wrote out.old at (told.now ++ decimal number ++ text "\n") out.new result }
+fn put_line(page: &mut Page<'_>, told: &[u8], number: usize)
+    requires { length told.now + length (decimal number) < page.old.room }
+    ensures { page.new ≡ with_text (told.now ++ decimal number ++ text "\n") page.old }
 {
-    let end = put_behind(out, at, told, number);
-    put_text(out, end, b"\n")
+    put_behind(page, told, number);
+    page.put_text(b"\n");
 }
 
 // `NUMBER LITRES` behind the word for how it is judged, and a newline: the number with its four digits, litres without leading zeros.
-#[tactic(auto, using(hexadecimal::proofs::Laws::wrote_then), unfolding(paper::specs::Yield::words))]
-fn put_said(out: &mut [u8], at: usize, judged: &[u8], said: Confirmation) -> usize
-    requires { at + length judged.now + longest_said ≤ length out.old }
-    ensures { Wrote out.old at (judged.now ++ (words said ++ text "\n")) out.new result }
+#[tactic(auto, using(decimal::proofs::Digits::decimal_of_32), unfolding(paper::specs::Yield::words))]
+fn put_said(page: &mut Page<'_>, judged: &[u8], said: Confirmation)
+    requires { length judged.now + longest_said ≤ page.old.room }
+    ensures { page.new ≡ with_text (judged.now ++ (words said ++ text "\n")) page.old }
 {
-    let start = put_text(out, at, judged);
-    let end = put_digits(out, start, 4, said.number as usize);
-    put_line(out, end, b" ", said.litres as usize)
+    page.put_text(judged);
+    page.put_digits(4, said.number as usize);
+    put_line(page, b" ", said.litres as usize);
 }
 
 // `accepted NUMBER LITRES`, `gap NUMBER LITRES`, `repeated NUMBER LITRES` or `aside`, and a newline.
 #[tactic(auto, unfolding(paper::specs::Yield::judgement_words))]
-fn put_judgement(out: &mut [u8], at: usize, judgement: Judgement) -> usize
-    requires { at + longest_judgement ≤ length out.old }
-    ensures { Wrote out.old at (judgement_words judgement ++ text "\n") out.new result }
+fn put_judgement(page: &mut Page<'_>, judgement: Judgement)
+    requires { longest_judgement ≤ page.old.room }
+    ensures { page.new ≡ with_text (judgement_words judgement ++ text "\n") page.old }
 {
     match judgement {
-        Judgement::Accepted(said) => put_said(out, at, b"accepted ", said),
-        Judgement::Gap(said) => put_said(out, at, b"gap ", said),
-        Judgement::Repeated(said) => put_said(out, at, b"repeated ", said),
-        Judgement::Aside => put_text(out, at, b"aside\n"),
+        Judgement::Accepted(said) => put_said(page, b"accepted ", said),
+        Judgement::Gap(said) => put_said(page, b"gap ", said),
+        Judgement::Repeated(said) => put_said(page, b"repeated ", said),
+        Judgement::Aside => page.put_text(b"aside\n"),
     }
 }
 
 // An entry's line: its place, and how it is judged.
-#[tactic(auto, using(hexadecimal::proofs::Laws::wrote_then), unfolding(paper::specs::Yield::line_of))]
-pub fn put_entry(out: &mut [u8], at: usize, entry: Entry) -> usize
-    requires { Room at out.old }
-    ensures { Wrote out.old at (line_of entry) out.new result }
+#[tactic(auto, using(decimal::proofs::Digits::decimal_of_64), unfolding(paper::specs::Yield::line_of))]
+pub fn put_entry(page: &mut Page<'_>, entry: Entry)
+    requires { longest ≤ page.old.room }
+    ensures { page.new ≡ with_text (line_of entry) page.old }
 {
-    let place = put_decimal(out, at, entry.place);
-    let start = put_text(out, place, b" ");
-    let judgement = entry.judgement;
-    put_judgement(out, start, judgement)
+    put_decimal(page, entry.place);
+    page.put_text(b" ");
+    put_judgement(page, entry.judgement);
 }
 
 // `litres SUM`
-#[tactic(auto, unfolding(paper::specs::Yield::litres_line))]
-pub fn put_litres(out: &mut [u8], at: usize, sum: usize) -> usize
-    requires { Room at out.old }
-    ensures { Wrote out.old at (litres_line sum) out.new result }
+#[tactic(auto, using(decimal::proofs::Digits::decimal_of_64), unfolding(paper::specs::Yield::litres_line))]
+pub fn put_litres(page: &mut Page<'_>, sum: usize)
+    requires { longest ≤ page.old.room }
+    ensures { page.new ≡ with_text (litres_line sum) page.old }
 {
-    put_line(out, at, b"litres ", sum)
+    put_line(page, b"litres ", sum);
 }
 
 // `refused 8 PLACE`, the place in bytes.
-#[tactic(auto, unfolding(paper::specs::Yield::broken_line))]
-pub fn put_broken(out: &mut [u8], at: usize, place: usize) -> usize
-    requires { Room at out.old }
-    ensures { Wrote out.old at (broken_line place) out.new result }
+#[tactic(auto, using(decimal::proofs::Digits::decimal_of_64), unfolding(paper::specs::Yield::broken_line))]
+pub fn put_broken(page: &mut Page<'_>, place: usize)
+    requires { longest ≤ page.old.room }
+    ensures { page.new ≡ with_text (broken_line place) page.old }
 {
-    put_line(out, at, b"refused 8 ", place)
+    put_line(page, b"refused 8 ", place);
 }
 
 // `full PLACE`, the place among the characters.
-#[tactic(auto, unfolding(paper::specs::Yield::full_line))]
-pub fn put_full(out: &mut [u8], at: usize, place: usize) -> usize
-    requires { Room at out.old }
-    ensures { Wrote out.old at (full_line place) out.new result }
+#[tactic(auto, using(decimal::proofs::Digits::decimal_of_64), unfolding(paper::specs::Yield::full_line))]
+pub fn put_full(page: &mut Page<'_>, place: usize)
+    requires { longest ≤ page.old.room }
+    ensures { page.new ≡ with_text (full_line place) page.old }
 {
-    put_line(out, at, b"full ", place)
+    put_line(page, b"full ", place);
 }

@@ -6,6 +6,7 @@ use native.Mathlib.Omega.{arith}
 use lib.ListN.{length, take, get_or, set, replicate}
 use Rattle.card.specs.Held.{Sound}
 use Rattle.hexadecimal.specs.LineSoFar.{Fits}
+use Rattle.page.specs.Page.{Page}
 use Rattle.serving.specs.declared.Served.{Served}
 use Rattle.serving.specs.Served.{Serves}
 use Rattle.serving.specs.Program.{Carried, ServedFrom, over, then_served, PieceServed}
@@ -22,15 +23,15 @@ pub begins : (piece : List ℕ) (s : Carried) → Sound s.card → Fits s.line s
 begins piece s sound fits = record { wrote = []; then = λ output u more. more; sound = sound; fits = fits; within = omega arith }
 
 module _ (piece : List ℕ) (s : Carried) (at : ℕ) (t : Carried) (b : Begun piece s at t) where
-  pub goes_on_lem : (out out' frame : List ℕ) (r : Served)
-      → Serves t.card piece (record { at = at; line = t.line; put = 0 }) t.frame out r frame out'
+  pub goes_on_lem : (blank page : Page) (frame : List ℕ) (r : Served) → blank.text ≡ []
+      → Serves t.card piece (record { at = at; line = t.line }) t.frame blank r frame page
       → Begun piece s r.spot.at (record { card = r.card; line = r.spot.line; frame = frame })
-  goes_on_lem out out' frame r serves =
-      let first = take r.spot.put out' in
+  goes_on_lem blank page frame r nothing serves =
+      let first = page.text in
       record {
         wrote = b.wrote ++ first;
         then = λ output u more. subst (λ (w : List ℕ). ServedFrom piece 0 s w u) (sym (append_assoc b.wrote first output))
-            (b.then (first ++ output) u (then_served out out' frame output r serves more));
+            (b.then (first ++ output) u (then_served blank page frame output r nothing serves more));
         sound = serves.sound;
         fits = serves.fits;
         within = serves.within;

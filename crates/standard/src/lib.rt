@@ -25,9 +25,7 @@ fn is_interrupted(rt: &impl Eprint, what: &str, error: Error) -> bool {
 pub fn read_piece<R: Read>(rt: &impl Eprint, input: &mut R, piece: &mut [u8]) -> Option<usize>
     ensures { IfSome result (λ got. got ≤ length piece.new) }
 {
-    let mut turns = u64::MAX;
-    while turns > 0 {
-        turns -= 1;
+    for _ in 0..u64::MAX {
         match input.read(piece) {
             Ok(got) => return Some(got),
             Err(error) => {
@@ -43,15 +41,13 @@ pub fn read_piece<R: Read>(rt: &impl Eprint, input: &mut R, piece: &mut [u8]) ->
 // Writes all of a text, by as many writes as it takes. False where the output takes no more: one that was closed ends the program quietly, and any
 // other failure is said.
 pub fn write_text(rt: &(impl Print + Eprint), text: &[u8]) -> bool {
-    let mut done: usize = 0;
-    let mut turns = u64::MAX;
-    while done < text.len() {
-        if turns == 0 {
-            return false;
+    let mut rest = text;
+    for _ in 0..u64::MAX {
+        if rest.is_empty() {
+            return true;
         }
-        turns -= 1;
-        match rt.write_some(&text[done..]) {
-            Ok(took) => done += took,
+        match rt.write_some(rest) {
+            Ok(took) => rest = &rest[took..],
             Err(error) => {
                 if !is_interrupted(rt, "standard output", error) {
                     return false;
@@ -59,20 +55,18 @@ pub fn write_text(rt: &(impl Print + Eprint), text: &[u8]) -> bool {
             }
         }
     }
-    true
+    rest.is_empty()
 }
 
 // How many words the program was started with, its own name among them.
 pub fn word_count(rt: &impl Env) -> usize {
     let mut front = [0u8; 1];
-    let mut count: usize = 0;
-    while count < usize::MAX {
+    for count in 0..usize::MAX {
         if let Err(FillError::NotPresent) = rt.arg(count, &mut front) {
             return count;
         }
-        count += 1;
     }
-    count
+    usize::MAX
 }
 
 // The word that stands at this place: how long it is, or none where it can't be had, which was then said.

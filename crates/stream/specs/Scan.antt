@@ -1,20 +1,23 @@
 -- What the two passes over a stream find.
-use Rattle.std.specs.Prelude.{◌≡◌, List, [], ◌∷◌, ℕ, ◌+◌, ◌-◌, ◌≤◌, length, drop}
-use Rattle.paper.specs.Stream.{Character, first, readout, sort, byte}
-use Rattle.stream.specs.declared.Scan.{Scan}
-use Rattle.stream.specs.declared.Scan.TheVariants.{Whole, Broken}
-use Rattle.stream.specs.declared.Found.{Found}
+use Rattle.std.specs.Prelude.{◌≡◌, List, [], ◌∷◌, ℕ, ◌-◌, ◌<◌, length, Option, Some, None}
+use Rattle.paper.specs.Stream.{Character, good, damaged, first, stop, readout}
+use Rattle.stream.specs.declared.Item.{Item}
+use Rattle.stream.specs.declared.Item.TheVariants.{Good, Damaged}
 
 -- nothing of a stream is broken; or its rest begins at the first broken FF
-abbrev pub scanned : List ℕ → (rest : List ℕ) → Scan
-scanned s [] = Whole
-scanned s (b ∷ rest) = Broken (length s - length (b ∷ rest))
+abbrev pub scanned : List ℕ → (rest : List ℕ) → Option ℕ
+scanned s [] = None
+scanned s (b ∷ rest) = Some (length s - length (b ∷ rest))
 
--- The item at a place of a stream is the character that is read there, and reading goes on behind its bytes
-pub record ItemAt (s : List ℕ) (at : ℕ) (item : Found) : Type 0 where
-  pub character : Character
-  pub sort_is : item.sort ≡ sort character
-  pub byte_is : item.byte ≡ byte character
-  pub goes_on : readout (drop at s) ≡ first character (readout (drop (at + item.width) s))
-  pub some : 1 ≤ item.width
-  pub within : at + item.width ≤ length s
+abbrev pub character : Item → Character
+character (Good b) = good b
+character (Damaged b) = damaged b
+
+-- The first item of a stream is the character that is read there, and reading goes on behind its bytes
+pub record SplitsInto (s : List ℕ) (item : Item) (behind : List ℕ) : Type 0 where
+  pub goes_on : readout s ≡ first (character item) (readout behind)
+  pub shorter : length behind < length s
+
+-- No item is there: the stream is at its end, or at a broken FF
+abbrev pub Stops : List ℕ → Type 0
+Stops s = readout s ≡ stop s

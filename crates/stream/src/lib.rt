@@ -1,153 +1,111 @@
 // 01: "Reading a marked stream".
 #![tactic(auto)]
 
-ghost use Rattle.std.specs.Prelude.{◌≡◌, [], map, ◌<◌, ◌≤◌, length, take, drop};
+ghost use Rattle.std.specs.Prelude.{◌≡◌, [], map, ◌≤◌, length, MatchOption};
 ghost use Rattle.paper.specs.Stream as paper;
 ghost use Rattle.stream.specs.Promise.{Promise};
-ghost use Rattle.stream.specs.Scan.{scanned, ItemAt};
+ghost use Rattle.stream.specs.Scan.{scanned, SplitsInto, Stops, character};
 
-use paper::{Reading, Refusal};
+use paper::Refusal;
 
 const FF: u8 = 0xFF;
 
-// "0 good or 1 damaged"
-const GOOD: u8 = 0;
-
-const DAMAGED: u8 = 1;
-
-// What a look through a stream finds: nothing broken, or the place of the first broken FF.
+// An item as a reader of the stream knows it.
 #[derive(Clone, Copy)]
-pub enum Scan {
-    Whole,
-    Broken(usize),
+enum Item {
+    Good(u8),
+    Damaged(u8),
 }
 
-// An item of a stream, and how many of its bytes stand for it.
-#[derive(Clone, Copy)]
-struct Found {
-    sort: u8,
-    byte: u8,
-    width: usize,
-}
-
-// "FF before any other byte, or cut off at the end, is broken; the first such FF is named."
-#[tactic(auto, using(crate::proofs::Laws::cut, crate::proofs::Laws::cut_zero, crate::proofs::Laws::astray, crate::proofs::Laws::names, crate::proofs::Laws::none_broken, crate::proofs::Laws::passes_plain, crate::proofs::Laws::passes_doubled, crate::proofs::Laws::passes_damage))]
-pub fn first_broken(stream: &[u8]) -> Scan
-    ensures { result ≡ scanned stream.now (paper.readout stream.now).rest }
-{
-    let mut i = 0;
-    while i < stream.len() {
-        if stream[i] != FF {
-            i += 1;
-        } else {
-            if stream.len() <= i + 1 {
-                return Scan::Broken(i);
-            }
-            let after = stream[i + 1];
-            if after == FF {
-                i += 2;
-            } else {
-                if after != 0 {
-                    return Scan::Broken(i);
-                }
-                if stream.len() <= i + 2 {
-                    return Scan::Broken(i);
-                }
-                i += 3;
-            }
+impl Item {
+    // "0 good or 1 damaged"
+    fn sort(self) -> u8
+        ensures { result ≡ paper.sort (character self) }
+    {
+        match self {
+            Item::Good(_) => 0,
+            Item::Damaged(_) => 1,
         }
     }
-    Scan::Whole
+
+    fn byte(self) -> u8
+        ensures { result ≡ paper.byte (character self) }
+    {
+        match self {
+            Item::Good(byte) | Item::Damaged(byte) => byte,
+        }
+    }
 }
 
-// "FF FF is good FF; FF 00 x is damaged x; any other byte but FF is a good byte." Nothing from the place on is broken.
-#[tactic(auto, using(crate::proofs::Laws::damaged_item))]
-fn item_at(stream: &[u8], at: usize) -> Found
-    requires { (at < length stream.now) × ((paper.readout (drop at stream.now)).rest ≡ []) }
-    ensures { ItemAt stream.now at result }
+// The first item of a stream, and the bytes behind it. "FF FF is good FF; FF 00 x is damaged x; any other byte but FF is a good byte. FF before any
+// other byte, or cut off at the end, is broken": there is no item at a broken FF, nor at the end.
+fn split_item(stream: &[u8]) -> Option<(Item, &[u8])>
+    ensures { MatchOption result (Stops stream.now) (λ x. SplitsInto stream.now x.0 x.1.now) }
 {
-    let first = stream[at];
-    if first != FF {
-        return Found {
-            sort: GOOD,
-            byte: first,
-            width: 1,
-        };
+    match stream {
+        [FF, FF, behind @ ..] => Some((Item::Good(FF), behind)),
+        [FF, 0, byte, behind @ ..] => Some((Item::Damaged(*byte), behind)),
+        [FF, ..] | [] => None,
+        [byte, behind @ ..] => Some((Item::Good(*byte), behind)),
     }
-    let second = stream[at + 1];
-    if second == FF {
-        return Found {
-            sort: GOOD,
-            byte: FF,
-            width: 2,
-        };
+}
+
+// "FF before any other byte, or cut off at the end, is broken; the first such FF is named": its place, where there is one.
+#[tactic(auto, using(crate::proofs::Laws::none_broken, crate::proofs::Laws::names, crate::proofs::Laws::passes))]
+pub fn first_broken(stream: &[u8]) -> Option<usize>
+    ensures { result ≡ scanned stream.now (paper.readout stream.now).rest }
+{
+    let mut rest = stream;
+    while let Some((_, behind)) = split_item(rest) {
+        rest = behind;
     }
-    let third = stream[at + 2];
-    Found {
-        sort: DAMAGED,
-        byte: third,
-        width: 3,
+    if rest.is_empty() {
+        return None;
     }
+    Some(stream.len() - rest.len())
 }
 
 // "The items go as two lists (0 good or 1 damaged; the byte) into the fronts of two lent buffers, and the answer is their number"
 #[tactic(auto, using(crate::proofs::Laws::sorts_written, crate::proofs::Laws::bytes_written))]
 fn write_items(stream: &[u8], sorts: &mut [u8], bytes: &mut [u8]) -> usize
-    requires { ((paper.readout stream.now).rest ≡ [])
-        × (length stream.now ≤ length sorts.old) × (length stream.now ≤ length bytes.old) }
+    requires { (length stream.now ≤ length sorts.old) × (length stream.now ≤ length bytes.old) }
     ensures value { result ≡ length (paper.readout stream.now).characters }
     ensures sorts_after { sorts.new ≡ paper.front (map paper.sort (paper.readout stream.now).characters) sorts.old }
     ensures bytes_after { bytes.new ≡ paper.front (map paper.byte (paper.readout stream.now).characters) bytes.old }
 {
-    let mut at = 0;
+    let mut unread = stream;
     let mut count = 0;
-    while at < stream.len() {
-        let item = item_at(stream, at);
-        sorts[count] = item.sort;
-        bytes[count] = item.byte;
-        at += item.width;
+    while let Some((item, behind)) = split_item(unread) {
+        sorts[count] = item.sort();
+        bytes[count] = item.byte();
+        unread = behind;
         count += 1;
     }
     count
 }
 
 // Reads a marked stream into two lent buffers: its items, or refusal 9 or 8; "9 comes before 8". "A refusal changes nothing."
-#[tactic(auto, using(crate::proofs::Laws::nothing_left, crate::proofs::Laws::promised_short_sorts, crate::proofs::Laws::promised_short_bytes, crate::proofs::Laws::promised_broken, crate::proofs::Laws::promised_items))]
-pub fn decode(stream: &[u8], sorts: &mut [u8], bytes: &mut [u8]) -> Reading
+#[tactic(auto, using(crate::proofs::Laws::promised_short, crate::proofs::Laws::promised_broken, crate::proofs::Laws::promised_items))]
+pub fn decode(stream: &[u8], sorts: &mut [u8], bytes: &mut [u8]) -> Result<usize, Refusal>
     ensures { Promise stream.now sorts.old bytes.old
         (record { answer = result; sorts = sorts.new; bytes = bytes.new }) }
 {
-    if sorts.len() < stream.len() {
-        return Reading::Unread(Refusal::ShortOutput);
+    if sorts.len().min(bytes.len()) < stream.len() {
+        return Err(Refusal::ShortOutput);
     }
-    if bytes.len() < stream.len() {
-        return Reading::Unread(Refusal::ShortOutput);
+    if let Some(place) = first_broken(stream) {
+        return Err(Refusal::BrokenStream(place));
     }
-    match first_broken(stream) {
-        Scan::Broken(place) => Reading::Unread(Refusal::BrokenStream(place)),
-        Scan::Whole => Reading::Items(write_items(stream, sorts, bytes)),
-    }
-}
-
-// How many bytes stand before the first FF: all, where there is none.
-#[tactic(auto, using(crate::proofs::Laws::clean_ends, crate::proofs::Laws::clean_all, crate::proofs::Laws::clean_more))]
-fn clean_length(stream: &[u8]) -> usize
-    ensures { (result ≤ length stream.now) × (take result stream.now ≡ paper.clean_front stream.now) }
-{
-    let mut n = 0;
-    while n < stream.len() {
-        if stream[n] == FF {
-            return n;
-        }
-        n += 1;
-    }
-    n
+    Ok(write_items(stream, sorts, bytes))
 }
 
 // "the front of a stream up to its first FF, as that part of the caller's own bytes; it may be empty or all": it starts where the argument does.
 pub fn clean_front(stream: &[u8]) -> &[u8]
     ensures { (result.ref_ptr ≡ stream.entry.ref_ptr) × (result.now ≡ paper.clean_front stream.now) }
 {
-    let n = clean_length(stream);
+    let n = stream
+        .iter()
+        .position(|&byte| byte == FF)
+        .unwrap_or(stream.len());
     &stream[..n]
 }

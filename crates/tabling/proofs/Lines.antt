@@ -1,81 +1,72 @@
--- The line of a pair, and the table column by column and line by line.
-use mathlib.Core.List.{List, [], ◌∷◌, ◌++◌}
+-- The table column by column and line by line.
+use mathlib.Core.List.{List, [], ◌++◌}
+use mathlib.Core.Bool.{false}
 use mathlib.Core.Logic.{◌≢◌}
-use mathlib.Core.Option.{Option, none, some}
 use mathlib.Core.Path.{◌≡◌, refl, sym, ap, ◌∙◌}
-use Prim.Native.Nat.{ℕ, zero, suc, ◌≤◌, ◌<◌}
+use Prim.Native.Nat.{ℕ, zero, suc, ◌*◌, ◌≤◌, ◌<◌}
 use native.Mathlib.Omega.{arith}
-use lib.ListN.{length, get_or}
+use lib.ListN.{length, length-append, get_or}
+use borrow.Author.Tests.{le-ltb}
+use Rattle.std.specs.Prelude.{Option, None, Some, Result, Ok, Err}
 use Rattle.paper.specs.Text.{text, each}
-use Rattle.paper.specs.Decimal.{number_of, decimal}
-use Rattle.paper.specs.TwoBoxes.{eight, single, answered, one_ending}
-use Rattle.paper.specs.EndingLines.{ending_words, column, head_line, column_of, table_line, ending_table, ending_text}
-use Rattle.paper.specs.declared.OneEnding.{OneEnding}
-use Rattle.paper.specs.declared.OneEnding.TheVariants.{Does, NoneDoes, Unanswered}
-use Rattle.hexadecimal.specs.Written.{Wrote}
-use Rattle.hexadecimal.proofs.Laws.{wrote_then}
+use Rattle.paper.specs.Choice.{outside}
+use Rattle.paper.specs.Decimal.{decimal}
+use Rattle.paper.specs.TwoBoxes.{eight, single, one_ending}
+use Rattle.paper.specs.EndingLines.{column, head_line, column_of, table_line, ending_table, ending_text}
+use Rattle.paper.specs.declared.Refusal.{Refusal}
+use Rattle.page.specs.Page.{Page, with_text}
+use Rattle.page.proofs.Laws.{with_text_then}
 use Rattle.decimal.proofs.Digits.{decimal_few}
-use Rattle.joining.proofs.Passing.{of_two}
+use Rattle.tabling.specs.Lines.{longest_column, longest_line}
 
--- HOW MANY DIGITS
-
--- a setting is a byte, for all that its type says
-pub setting_few : (one : ℕ) → one ≤ 255 → length (decimal one) ≤ 3
-setting_few one h = decimal_few 2 one (omega arith)
-
--- a box's number in the table
+-- a box's number in the table has one digit
 pub first_few : (first : ℕ) → first ≤ 7 → length (decimal first) ≤ 1
 first_few first h = decimal_few 0 first (omega arith)
 
--- A PAIR
-
-pub pair_line : (first second : List ℕ) {a b : ℕ} {answer : OneEnding} {before between after : List ℕ} {at middle end : ℕ}
-    → a ≡ number_of first → b ≡ number_of second → answer ≡ one_ending a b → Wrote before at (ending_words answer) between middle
-    → Wrote between middle (text "\n") after end → Wrote before at (ending_text (first ∷ second ∷ [])) after end
-unfolding ending_text
-pair_line first second f s is w v = rw (is, f, s) at (wrote_then w v)
-
 -- A COLUMN
 
+of_the_eight : (n : ℕ) → n ≤ 7 → outside 0 7 n ≡ false
+of_the_eight n h = rw (le-ltb n 0 (omega arith), le-ltb 7 n h)
+
+of_two : (first second : ℕ) → first ≤ 7 → second ≤ 7 → one_ending first second ≡ Ok (single first second)
+unfolding one_ending
+of_two first second f s = rw (of_the_eight first f, of_the_eight second s)
+
 -- the column of an answer
-column_for : OneEnding → List ℕ
-column_for (Does one) = text " " ++ decimal one
-column_for NoneDoes = text " -"
-column_for (Unanswered r) = text " -"
+column_for : Result (Option ℕ) Refusal → List ℕ
+column_for (Ok o) = column o
+column_for (Err r) = text " -"
 
-of_single : (o : Option ℕ) → column_for (answered o) ≡ column o
+of_others : (answer : Result (Option ℕ) Refusal) → ((one : ℕ) → answer ≢ Ok (Some one)) → column_for answer ≡ text " -"
 unfolding column_for
-of_single none = refl
-of_single (some one) = refl
+of_others (Ok (Some one)) h = absurd (h one refl)
+of_others (Ok None) h = refl
+of_others (Err r) h = refl
 
-of_others : (answer : OneEnding) → ((one : ℕ) → answer ≢ Does one) → column_for answer ≡ text " -"
-unfolding column_for
-of_others (Does one) h = absurd (h one refl)
-of_others NoneDoes h = refl
-of_others (Unanswered r) h = refl
-
-module _ {first second : ℕ} (f : first ≤ 7) (s : second ≤ 7) {answer : OneEnding} (is : answer ≡ one_ending first second) where
+module _ {first second : ℕ} (f : first ≤ 7) (s : second ≤ 7) {answer : Result (Option ℕ) Refusal} (is : answer ≡ one_ending first second) where
   column_is : column_for answer ≡ column_of first second
-  column_is = ap column_for (is ∙ of_two first second f s) ∙ of_single (single first second)
+  unfolding column_for
+  column_is = ap column_for (is ∙ of_two first second f s)
 
-  pub column_does : {one : ℕ} → answer ≡ Does one → column_of first second ≡ text " " ++ decimal one
+  pub column_does : {one : ℕ} → answer ≡ Ok (Some one) → column_of first second ≡ text " " ++ decimal one
   unfolding column_for
   column_does e = sym column_is ∙ ap column_for e
 
-  pub column_none : ((one : ℕ) → answer ≢ Does one) → column_of first second ≡ text " -"
+  pub column_none : ((one : ℕ) → answer ≢ Ok (Some one)) → column_of first second ≡ text " -"
   column_none h = sym column_is ∙ of_others answer h
 
 -- THE TABLE
 
-pub table_line_lem : (first : ℕ) {before₁ before₂ before₃ after : List ℕ} {at₁ at₂ at₃ end : ℕ} → Wrote before₁ at₁ (decimal first) before₂ at₂
-    → Wrote before₂ at₂ (each (column_of first) eight) before₃ at₃ → Wrote before₃ at₃ (text "\n") after end → Wrote before₁ at₁ (table_line first) after end
+pub line_short : (first : ℕ) → first ≤ 7 → length (each (column_of first) eight) ≤ 8 * longest_column → length (table_line first) ≤ longest_line
 unfolding table_line
-table_line_lem first number columns newline = wrote_then (wrote_then number columns) newline
+line_short first h columns =
+    rw (length-append (decimal first ++ each (column_of first) eight) (text "\n"), length-append (decimal first))
+    (omega (arith, first_few first h, columns))
 
-pub whole_table : {before between after : List ℕ} {at middle end : ℕ} → Wrote before at (text "  0 1 2 3 4 5 6 7\n") between middle
-    → Wrote between middle (each table_line eight) after end → Wrote before at (ending_text []) after end
+pub whole_table : (before : Page) {between after : Page} → between ≡ with_text (text "  0 1 2 3 4 5 6 7\n") before
+    → after ≡ with_text (each table_line eight) between → after ≡ with_text (ending_text []) before
 unfolding ending_text ending_table head_line decimal
-whole_table head lines = wrote_then head lines
+whole_table before head lines = rw (lines, head) (with_text_then (text "  0 1 2 3 4 5 6 7\n") (each table_line eight) before)
 
 -- the numbers of the boxes, by place
 pub eight_at : (i : ℕ) → i < 8 → get_or eight i 0 ≡ i

@@ -1,16 +1,17 @@
 // 02 h: the single setting of a pair, and the table of all 64, put into a lent buffer.
 #![tactic(auto)]
 
-ghost use Rattle.std.specs.Prelude.{[], ◌∷◌, ◌+◌, ◌*◌, ◌≤◌, length};
+ghost use Rattle.std.specs.Prelude.{◌≡◌, [], ◌∷◌, ◌*◌, ◌≤◌, length};
 ghost use Rattle.paper.specs.Text.{each};
 ghost use Rattle.paper.specs.TwoBoxes.{eight};
 ghost use Rattle.paper.specs.EndingLines.{ending_words, column_of, table_line, ending_text};
-ghost use Rattle.hexadecimal.specs.Written.{Wrote, WroteWithin};
+ghost use Rattle.page.specs.Page.{with_text};
 ghost use Rattle.refusing.specs.Words.{longest_refusal};
 ghost use Rattle.tabling.specs.Lines.{longest_pair, longest_column, longest_line, longest_table};
 
-use decimal::{number_of, put_behind, put_decimal, put_text};
-use paper::OneEnding;
+use decimal::{number_of, put_behind, put_decimal};
+use page::Page;
+use paper::Refusal;
 
 // A pair's line at most: a refusal, which may have a place of twenty digits, and a newline.
 pub const LONGEST_PAIR: usize = 8 + 3 + 1 + 20 + 1;
@@ -18,89 +19,86 @@ pub const LONGEST_PAIR: usize = 8 + 3 + 1 + 20 + 1;
 // The table at most: the head line, and eight lines of the first box's number, eight columns of a space and three digits, and a newline.
 pub const LONGEST_TABLE: usize = 18 + 8 * (1 + 8 * 4 + 1);
 
-// `0` to `7`, or `none`; or `refused 5 4`. From a place on; answers the place behind it, as all that put something here do.
-#[tactic(auto, using(crate::proofs::Lines::setting_few), unfolding(paper::specs::EndingLines::ending_words))]
-fn put_answer(out: &mut [u8], at: usize, answer: OneEnding) -> usize
-    requires { at + longest_refusal ≤ length out.old }
-    ensures { WroteWithin longest_refusal out.old at (ending_words answer) out.new result }
+// `0` to `7`, or `none`; or `refused 5 4`.
+#[tactic(auto, using(decimal::proofs::Digits::decimal_of_8), unfolding(paper::specs::EndingLines::ending_words))]
+fn put_answer(page: &mut Page<'_>, answer: Result<Option<u8>, Refusal>)
+    requires { longest_refusal ≤ page.old.room }
+    ensures text { page.new ≡ with_text (ending_words answer) page.old }
+    ensures short { length (ending_words answer) ≤ longest_refusal }
 {
     match answer {
-        OneEnding::Does(one) => put_decimal(out, at, one as usize),
-        OneEnding::NoneDoes => put_text(out, at, b"none"),
-        OneEnding::Unanswered(refusal) => refusing::put_refusal(out, at, refusal),
+        Ok(Some(one)) => put_decimal(page, one as usize),
+        Ok(None) => page.put_text(b"none"),
+        Err(refusal) => refusing::put_refusal(page, refusal),
     }
 }
 
 // The line of a pair of words.
-pub fn put_pair(out: &mut [u8], at: usize, first: &[u8], second: &[u8]) -> usize
-    requires { at + longest_pair ≤ length out.old }
-    ensures { Wrote out.old at (ending_text (first.now ∷ second.now ∷ [])) out.new result }
+#[tactic(auto, unfolding(paper::specs::EndingLines::ending_text))]
+pub fn put_pair(page: &mut Page<'_>, first: &[u8], second: &[u8])
+    requires { longest_pair ≤ page.old.room }
+    ensures { page.new ≡ with_text (ending_text (first.now ∷ second.now ∷ [])) page.old }
 {
     let answer = joining::one_ending(number_of(first), number_of(second));
-    let behind = put_answer(out, at, answer);
-    put_text(out, behind, b"\n")
+    put_answer(page, answer);
+    page.put_text(b"\n");
 }
 
 // A column of the table: the setting behind a space, or `-`.
-#[tactic(auto, using(crate::proofs::Lines::setting_few, crate::proofs::Lines::column_does, crate::proofs::Lines::column_none))]
-fn put_column(out: &mut [u8], at: usize, first: u32, second: u32) -> usize
+#[tactic(auto, using(decimal::proofs::Digits::decimal_of_8, crate::proofs::Lines::column_does, crate::proofs::Lines::column_none))]
+fn put_column(page: &mut Page<'_>, first: u32, second: u32)
     requires first_bound { first ≤ 7 }
     requires second_bound { second ≤ 7 }
-    requires longest_column_in_bounds { at + longest_column ≤ length out.old }
-    ensures { WroteWithin longest_column out.old at (column_of first second) out.new result }
+    requires longest_column_in_bounds { longest_column ≤ page.old.room }
+    ensures text { page.new ≡ with_text (column_of first second) page.old }
+    ensures short { length (column_of first second) ≤ longest_column }
 {
     match joining::one_ending(first, second) {
-        OneEnding::Does(one) => put_behind(out, at, b" ", one as usize),
-        _ => put_text(out, at, b" -"),
+        Ok(Some(one)) => put_behind(page, b" ", one as usize),
+        _ => page.put_text(b" -"),
     }
 }
 
 // A column for each second box.
-fn put_columns(out: &mut [u8], at: usize, first: u32) -> usize
+fn put_columns(page: &mut Page<'_>, first: u32)
     requires first_bound { first ≤ 7 }
-    requires longest_column_in_bounds { at + 8 * longest_column ≤ length out.old }
-    ensures { WroteWithin (8 * longest_column) out.old at (each (column_of first) eight) out.new result }
+    requires longest_column_in_bounds { 8 * longest_column ≤ page.old.room }
+    ensures text { page.new ≡ with_text (each (column_of first) eight) page.old }
+    ensures short { length (each (column_of first) eight) ≤ 8 * longest_column }
 {
-    let mut end = at;
-    let mut second = 0;
-    while second < 8 {
-        end = put_column(out, end, first, second);
-        second += 1;
+    for second in 0..8 {
+        put_column(page, first, second);
     }
-    end
 }
 
 // A line of the table: the first box's number, and a column for each second box.
-#[tactic(auto, using(crate::proofs::Lines::first_few))]
-fn put_line(out: &mut [u8], at: usize, first: u32) -> usize
+#[tactic(auto, using(crate::proofs::Lines::first_few), unfolding(paper::specs::EndingLines::table_line))]
+fn put_line(page: &mut Page<'_>, first: u32)
     requires first_bound { first ≤ 7 }
-    requires longest_line_in_bounds { at + longest_line ≤ length out.old }
-    ensures { WroteWithin longest_line out.old at (table_line first) out.new result }
+    requires longest_line_in_bounds { longest_line ≤ page.old.room }
+    ensures text { page.new ≡ with_text (table_line first) page.old }
+    ensures short { length (table_line first) ≤ longest_line }
 {
-    let start = put_decimal(out, at, first as usize);
-    let end = put_columns(out, start, first);
-    put_text(out, end, b"\n")
+    put_decimal(page, first as usize);
+    put_columns(page, first);
+    page.push(b'\n');
 }
 
 // A line for each first box.
-fn put_lines(out: &mut [u8], at: usize) -> usize
-    requires { at + 8 * longest_line ≤ length out.old }
-    ensures { Wrote out.old at (each table_line eight) out.new result }
+fn put_lines(page: &mut Page<'_>)
+    requires { 8 * longest_line ≤ page.old.room }
+    ensures { page.new ≡ with_text (each table_line eight) page.old }
 {
-    let mut end = at;
-    let mut first = 0;
-    while first < 8 {
-        end = put_line(out, end, first);
-        first += 1;
+    for first in 0..8 {
+        put_line(page, first);
     }
-    end
 }
 
 // The table of 64, below its head line.
-pub fn put_table(out: &mut [u8], at: usize) -> usize
-    requires { at + longest_table ≤ length out.old }
-    ensures { Wrote out.old at (ending_text []) out.new result }
+pub fn put_table(page: &mut Page<'_>)
+    requires { longest_table ≤ page.old.room }
+    ensures { page.new ≡ with_text (ending_text []) page.old }
 {
-    let start = put_text(out, at, b"  0 1 2 3 4 5 6 7\n");
-    put_lines(out, start)
+    page.put_text(b"  0 1 2 3 4 5 6 7\n");
+    put_lines(page);
 }

@@ -12,7 +12,8 @@ use Rattle.std.specs.Prelude.{if◌then◌else◌}
 use Rattle.paper.specs.Numbers.{refusal_numbers, negative}
 use Rattle.paper.specs.declared.Refusal.{Refusal}
 use Rattle.paper.specs.declared.Pair.{Pair}
-use Rattle.paper.specs.declared.Choosing.TheVariants.{Chosen}
+use Rattle.std.specs.Prelude.{Ok}
+use Rattle.paper.specs.Rate.{deviating}
 use Rattle.printing.specs.Printed.{refusal_number}
 use Rattle.telling.specs.Told.{choosing_told, laid}
 
@@ -31,6 +32,6 @@ stopped_number false = refl
 -- a rate that was chosen: its deviation is stored as bits and read again
 pub chosen_told : (p : Pair) (z : ℤ) (size sign : ℕ) → mag z < 2 ^ hbits w64
     → size ≡ nat_abs (to_z w64 (of_z w64 z)) → sign ≡ negative (to_z w64 (of_z w64 z))
-    → record { refusal = 0; values = p.divisor ∷ p.period ∷ size ∷ sign ∷ [] } ≡ choosing_told (Chosen p z)
+    → record { refusal = 0; values = p.divisor ∷ p.period ∷ size ∷ sign ∷ [] } ≡ choosing_told (Ok (deviating p z))
 unfolding choosing_told
 chosen_told p z size sign f e g = rw (e, g, to_z-of_z {w = w64} {z = z} (record { sfits = f }))

@@ -1,12 +1,11 @@
 -- An answer as C has it: the paper's number and values.
-use Rattle.std.specs.Prelude.{List, [], ◌∷◌, ◌++◌, ℕ, take, if◌then◌else◌}
+use Rattle.std.specs.Prelude.{List, [], ◌∷◌, ◌++◌, ℕ, take, if◌then◌else◌, Option, Result}
 use Rattle.paper.specs.Numbers.{refusal_numbers, fate_number, reading_numbers, listing_numbers, choosing_numbers, ending_numbers}
 use Rattle.paper.specs.declared.Answer.{Answer}
 use Rattle.paper.specs.declared.Answer.TheVariants as answers
-use Rattle.paper.specs.declared.Reading.{Reading}
-use Rattle.paper.specs.declared.Listing.{Listing}
-use Rattle.paper.specs.declared.Choosing.{Choosing}
-use Rattle.paper.specs.declared.OneEnding.{OneEnding}
+use Rattle.paper.specs.declared.Refusal.{Refusal}
+use Rattle.paper.specs.declared.Listed.{Listed}
+use Rattle.paper.specs.declared.Chosen.{Chosen}
 use Rattle.telling.specs.declared.Told.{Told}
 
 -- "Answers begin with 00 or the refusal number (5 is followed by its field), then: ...": the frame program's numbers, but of a read how many bytes
@@ -31,14 +30,14 @@ laid (number ∷ values) = record { refusal = number; values = take 4 (values ++
 unfoldable pub told : Answer → Told
 told a = laid (words a)
 
-unfoldable pub reading_told : Reading → Told
+unfoldable pub reading_told : Result ℕ Refusal → Told
 reading_told r = laid (reading_numbers r)
 
-unfoldable pub listing_told : Listing → Told
+unfoldable pub listing_told : Result Listed Refusal → Told
 listing_told l = laid (listing_numbers l)
 
-unfoldable pub choosing_told : Choosing → Told
+unfoldable pub choosing_told : Result Chosen Refusal → Told
 choosing_told c = laid (choosing_numbers c)
 
-unfoldable pub ending_told : OneEnding → Told
+unfoldable pub ending_told : Result (Option ℕ) Refusal → Told
 ending_told e = laid (ending_numbers e)

@@ -5,7 +5,7 @@ ghost use Rattle.std.specs.Prelude.{[], ◌∷◌, ◌≡◌};
 ghost use Rattle.paper.specs.Numbers.{refusal_numbers};
 ghost use Rattle.telling.specs.Told.{told, reading_told, listing_told, choosing_told, ending_told, laid};
 
-use paper::{Answer, Choosing, Listing, OneEnding, Reading, Refusal};
+use paper::{Answer, Chosen, Listed, Refusal};
 
 // What a call tells: 0 or the refusal's number, and the values in the paper's order, with zeros behind them.
 #[repr(C)]
@@ -72,49 +72,49 @@ pub fn tell(answer: Answer) -> Told
 
 // The number of items, or the refusal.
 #[tactic(auto, unfolding(crate::specs::Told::reading_told))]
-pub fn tell_reading(reading: Reading) -> Told
+pub fn tell_reading(reading: Result<usize, Refusal>) -> Told
     ensures { result ≡ reading_told reading }
 {
     match reading {
-        Reading::Items(count) => served(count, 0, 0, 0),
-        Reading::Unread(refusal) => tell_refusal(refusal),
+        Ok(count) => served(count, 0, 0, 0),
+        Err(refusal) => tell_refusal(refusal),
     }
 }
 
 // How many entries a list has and the sum of the accepted litres, or the refusal.
 #[tactic(auto, unfolding(crate::specs::Told::listing_told))]
-pub fn tell_listing(listing: Listing) -> Told
+pub fn tell_listing(listing: Result<Listed, Refusal>) -> Told
     ensures { result ≡ listing_told listing }
 {
     match listing {
-        Listing::Listed(count, sum) => served(count, sum, 0, 0),
-        Listing::Unlisted(refusal) => tell_refusal(refusal),
+        Ok(listed) => served(listed.entries, listed.litres, 0, 0),
+        Err(refusal) => tell_refusal(refusal),
     }
 }
 
 // Divisor, period, the deviation's size, and 1 where it is negative; or the refusal.
 #[tactic(auto, unfolding(crate::specs::Told::choosing_told))]
-pub fn tell_choosing(choosing: Choosing) -> Told
+pub fn tell_choosing(choosing: Result<Chosen, Refusal>) -> Told
     ensures { result ≡ choosing_told choosing }
 {
     match choosing {
-        Choosing::Chosen(pair, deviation) => {
+        Ok(Chosen { pair, deviation }) => {
             let size = printing::deviation_size(deviation);
             let negative = printing::negative_number(deviation) as usize;
             served(pair.divisor as usize, pair.period as usize, size, negative)
         }
-        Choosing::Unchosen(refusal) => tell_refusal(refusal),
+        Err(refusal) => tell_refusal(refusal),
     }
 }
 
 // 1 and the single setting, or 0 where none does; or the refusal.
 #[tactic(auto, unfolding(crate::specs::Told::ending_told))]
-pub fn tell_ending(ending: OneEnding) -> Told
+pub fn tell_ending(ending: Result<Option<u8>, Refusal>) -> Told
     ensures { result ≡ ending_told ending }
 {
     match ending {
-        OneEnding::Does(one) => served(1, one as usize, 0, 0),
-        OneEnding::NoneDoes => served(0, 0, 0, 0),
-        OneEnding::Unanswered(refusal) => tell_refusal(refusal),
+        Ok(Some(one)) => served(1, one as usize, 0, 0),
+        Ok(None) => served(0, 0, 0, 0),
+        Err(refusal) => tell_refusal(refusal),
     }
 }

@@ -1,16 +1,18 @@
 -- The record's calls do what the paper's definitions say.
 use mathlib.Core.Path.{◌≡◌, refl, ap, sym, ◌∙◌}
-use mathlib.Core.Bool.{Bool, true, false, ◌&&◌}
-use mathlib.Core.List.{List, [], ◌∷◌, ◌++◌, append-nil}
+use mathlib.Core.Bool.{Bool, true, false, ◌&&◌, ◌||◌}
+use mathlib.Core.List.{List, [], ◌∷◌, ◌++◌, append_assoc}
 use mathlib.Core.Option.{Option, none, some}
-use Prim.Native.Nat.{ℕ, ◌+◌, ◌-◌, ◌<◌, min}
+use Prim.Native.Nat.{ℕ, ◌+◌, ◌-◌, ◌<◌, ◌≤◌, min}
 use native.Mathlib.Omega.{arith}
 use native.Mathlib.Nat.{min_comm}
 use lib.Dec.{eqb, ltb}
-use lib.ListN.{length, take, drop, set, get_or, replicate, length-append, length-take, length-drop}
-use lib.Seq.{take-append_seam}
+use lib.ListN.{length, take, drop, get_or, replicate, length-append, length-take, length-drop}
+use lib.Seq.{take-append_seam, drop-append_seam}
+use borrow.Rule.Slice.PartMut.{put_mid}
+use Rattle.std.proofs.lemmas.List.{drop-replicate}
 use Rattle.arrays.specs.Padded.{padded}
-use Rattle.arrays.proofs.Laws.{padded_length, padded_head, padded_drop, padded_more, take_min}
+use Rattle.arrays.proofs.Laws.{padded_length, padded_head, padded_drop, take_min}
 use Rattle.std.specs.Prelude.{if◌then◌else◌}
 use Rattle.paper.specs.Given.{Given, given}
 use Rattle.paper.specs.Arrival.{CR, NL}
@@ -21,9 +23,25 @@ use Rattle.paper.specs.declared.Flags.{Flags}
 use Rattle.paper.specs.declared.Answer.{Answer}
 use Rattle.paper.specs.declared.Answer.TheVariants.{Took, Sent}
 use Rattle.transmitter.specs.declared.Transmitter.{Transmitter}
-use Rattle.transmitter.specs.declared.Answered.{Answered}
+use Rattle.paper.specs.declared.Answered.{Answered}
 use Rattle.transmitter.specs.Held.{waits, character, special_in, transmitter_of, transmitter_in, Sound}
-use Rattle.transmitter.specs.Held.{with_queue, with_owed, with_special, with_cts, answered_as, loads, sends_next, turns, asks_special}
+use Rattle.transmitter.specs.Held.{answered_as, loads, sends_next, turns, asks_special}
+
+-- The same record, but for the parts that are named
+
+abbrev pub with_queue : (count : ℕ) → (bytes : List ℕ) → (owed : Bool) → Transmitter → Transmitter
+with_queue count bytes owed t =
+    record { count = count; bytes = bytes; owed = owed; waits = t.waits; special = t.special; cts = t.cts }
+
+abbrev pub with_owed : Bool → Transmitter → Transmitter
+with_owed owed t = with_queue t.count t.bytes owed t
+
+abbrev pub with_special : (waits : Bool) → (special : ℕ) → Transmitter → Transmitter
+with_special waits special t =
+    record { count = t.count; bytes = t.bytes; owed = t.owed; waits = waits; special = special; cts = t.cts }
+
+abbrev pub with_cts : Bool → Transmitter → Transmitter
+with_cts cts t = record { count = t.count; bytes = t.bytes; owed = t.owed; waits = t.waits; special = t.special; cts = cts }
 
 special_in_of : (o : Option ℕ) → special_in (waits o) (character o) ≡ o
 special_in_of none = refl
@@ -64,9 +82,9 @@ module _ {t : Transmitter} (sound : Sound t) where
 
 -- an answer, with a record that holds what the paper leaves
 pub answers : (a : Answer) {t : Transmitter} (m : model.Transmitter) (l : List ℕ) → t ≡ transmitter_of m
-    → ◌≡◌ {A = Answered} (record { answer = a; transmitter = t }) (answered_as (given a m l))
+    → ◌≡◌ {A = Answered Transmitter} (record { answer = a; next = t }) (answered_as (given a m l))
 unfolding answered_as
-answers a m l e = ap (λ (x : Transmitter). record { answer = a; transmitter = x }) e
+answers a m l e = ap (λ (x : Transmitter). record { answer = a; next = x }) e
 
 pub length-bytes : (t : Transmitter) → Sound t → length t.bytes ≡ transmit_depth
 length-bytes t sound =
@@ -89,11 +107,11 @@ module _ (s : Settings) (t : Transmitter) where
   unfolding turns
   turns_by f o e = ap (λ (x : Option ℕ). answered_as (model.turned s f (transmitter_in t) x)) e
 
-  pub asks_by : (n : ℕ) (o : Option ℕ) → ltb n 1 ≡ false → ltb 4 n ≡ false → (transmitter_in t).special ≡ o
+  pub asks_by : (n : ℕ) (o : Option ℕ) → (ltb n 1 || ltb 4 n) ≡ false → (transmitter_in t).special ≡ o
       → asks_special s t n ≡ answered_as (model.special_taken s (transmitter_in t) n o)
   unfolding asks_special
-  asks_by n o low high e =
-      rw (low, high) (ap (λ (x : Option ℕ). answered_as (model.special_taken s (transmitter_in t) n x)) e)
+  asks_by n o inside e =
+      rw inside (ap (λ (x : Option ℕ). answered_as (model.special_taken s (transmitter_in t) n x)) e)
 
   pub sends_by : (l : List ℕ) → (transmitter_in t).bytes ≡ l
       → sends_next s t false ≡ answered_as (model.send_next s (transmitter_in t) false l)
@@ -131,8 +149,8 @@ module _ (s : Settings) (t : Transmitter) (sound : Sound t) (waiting : 0 < t.cou
 
   pub head_sent : {bytes : List ℕ} (owes : Bool) → bytes ≡ drop 1 t.bytes ++ replicate 1 0
       → owes ≡ (eqb s.expand 1 && eqb (get_or t.bytes 0 0) NL)
-      → ◌≡◌ {A = Answered}
-      (record { answer = Sent (if owes then CR else get_or t.bytes 0 0); transmitter = with_queue (t.count - 1) bytes owes t })
+      → ◌≡◌ {A = Answered Transmitter}
+      (record { answer = Sent (if owes then CR else get_or t.bytes 0 0); next = with_queue (t.count - 1) bytes owes t })
       (sends_next s t false)
   head_sent owes closed e =
       let head = get_or t.bytes 0 0 in
@@ -142,30 +160,38 @@ module _ (s : Settings) (t : Transmitter) (sound : Sound t) (waiting : 0 < t.cou
       rw (sends_by s t (head ∷ l) queue_head, ← e, either owes (model.with_bytes l m) head)
       (answers _ _ _ (queue_with sound l owes (omega (arith, length-drop 1 m.bytes)) (closed ∙ queue_rest)))
 
--- A load writes new bytes behind those that wait: the array when i of them are written
-abbrev pub written_to : Transmitter → (new : List ℕ) → (i : ℕ) → List ℕ
-written_to t new i = padded transmit_depth ((transmitter_in t).bytes ++ take i new)
+-- A load writes new bytes behind those that wait
+
+padded_behind : (places k : ℕ) (l new : List ℕ) → length new ≡ k → length l + k ≤ places
+    → put_mid (length l) k (padded places l) new ≡ padded places (l ++ new)
+padded_behind places k l new e h =
+    let f : places - length l - k ≡ places - length (l ++ new) = omega (arith, length-append l new) in
+    rw (take-append_seam, drop-append_seam, drop-replicate, f, append_assoc)
+
+pub load_room : (t : Transmitter) → Sound t → t.count ≤ transmit_depth
+load_room t sound = omega (arith, (parts t sound).count, sound.sending)
 
 module _ (t : Transmitter) (sound : Sound t) (new : List ℕ) where
-  pub load_start : t.bytes ≡ written_to t new 0
-  load_start = (parts t sound).bytes ∙ ap (padded transmit_depth) (sym (append-nil (transmitter_in t).bytes))
-
-  pub load_step : (i : ℕ) → t.count + i < transmit_depth → i < length new
-      → set (written_to t new i) (t.count + i) (get_or new i 0) ≡ written_to t new (i + 1)
-  load_step i h k =
+  written_behind : (k : ℕ) (part : List ℕ) → length part ≡ k → t.count + k ≤ transmit_depth
+      → put_mid t.count k t.bytes part ≡ padded transmit_depth ((transmitter_in t).bytes ++ part)
+  written_behind k part e h =
       let p = parts t sound in
-      ap (λ (n : ℕ). set (written_to t new i) (n + i) (get_or new i 0)) p.count
-      ∙ padded_more transmit_depth (transmitter_in t).bytes new i (omega arith) k
+      let l = (transmitter_in t).bytes in
+      ap (λ (x : List ℕ). put_mid t.count k x part) p.bytes
+      ∙ ap (λ (n : ℕ). put_mid n k (padded transmit_depth l) part) p.count
+      ∙ padded_behind transmit_depth k l part e (omega arith)
 
-  pub load_end : {bytes : List ℕ} (taken : ℕ) → taken ≡ min (length new) (transmit_depth - t.count) → bytes ≡ written_to t new taken
-      → ◌≡◌ {A = Answered} (record { answer = Took taken; transmitter = with_queue (t.count + taken) bytes t.owed t }) (loads t new)
+  pub load_end : {part : List ℕ} (taken k : ℕ) → taken ≡ min (length new) (transmit_depth - t.count) → k ≡ taken → part ≡ take taken new
+      → ◌≡◌ {A = Answered Transmitter}
+      (record { answer = Took taken; next = with_queue (t.count + taken) (put_mid t.count k t.bytes part) t.owed t }) (loads t new)
   unfolding loads model.loaded transmitter_in
-  load_end taken e written =
+  load_end {part} taken k e same written =
       let p = parts t sound in
       let l = (transmitter_in t).bytes in
       let room = transmit_depth - length l in
       let f : taken ≡ min (length new) room = e ∙ ap (λ (n : ℕ). min (length new) (transmit_depth - n)) p.count in
-      let g : take taken new ≡ take room new = ap (λ (n : ℕ). take n new) (f ∙ min_comm (length new) room) ∙ take_min room new in
+      let g : part ≡ take room new = written ∙ ap (λ (n : ℕ). take n new) (f ∙ min_comm (length new) room) ∙ take_min room new in
+      let few : length part ≡ k = omega (arith, ap length written, length-take taken new) in
       let counted : t.count + taken ≡ length (l ++ take room new) = omega (arith, length-append l (take room new), length-take room new) in
-      let filled = written ∙ ap (λ (x : List ℕ). padded transmit_depth (l ++ x)) g in
+      let filled = written_behind k part few (omega (arith, load_room t sound)) ∙ ap (λ (x : List ℕ). padded transmit_depth (l ++ x)) g in
       rw (← f) (answers _ _ _ (queue_with sound (l ++ take room new) t.owed counted filled))

@@ -8,7 +8,7 @@ use Rattle.paper.specs.Transmitter as model
 use Rattle.paper.specs.declared.Settings.{Settings}
 use Rattle.paper.specs.declared.Flags.{Flags}
 use Rattle.transmitter.specs.declared.Transmitter.{Transmitter}
-use Rattle.transmitter.specs.declared.Answered.{Answered}
+use Rattle.paper.specs.declared.Answered.{Answered}
 
 -- whether a special character waits, and which: 0 where none does
 abbrev pub waits : Option ℕ → Bool
@@ -44,42 +44,26 @@ pub record Sound (t : Transmitter) : Type 0 where
   pub is : t ≡ transmitter_of (transmitter_in t)
   pub sending : length (transmitter_in t).bytes ≤ model.transmit_depth
 
--- The same record, but for the parts that are named
-
-abbrev pub with_queue : (count : ℕ) → (bytes : List ℕ) → (owed : Bool) → Transmitter → Transmitter
-with_queue count bytes owed t =
-    record { count = count; bytes = bytes; owed = owed; waits = t.waits; special = t.special; cts = t.cts }
-
-abbrev pub with_owed : Bool → Transmitter → Transmitter
-with_owed owed t = with_queue t.count t.bytes owed t
-
-abbrev pub with_special : (waits : Bool) → (special : ℕ) → Transmitter → Transmitter
-with_special waits special t =
-    record { count = t.count; bytes = t.bytes; owed = t.owed; waits = waits; special = special; cts = t.cts }
-
-abbrev pub with_cts : Bool → Transmitter → Transmitter
-with_cts cts t = record { count = t.count; bytes = t.bytes; owed = t.owed; waits = t.waits; special = t.special; cts = cts }
-
 -- what a call gives, as the record that it returns
-unfoldable pub answered_as : Given model.Transmitter → Answered
-answered_as g = record { answer = g.answer; transmitter = transmitter_of g.next }
+unfoldable pub answered_as : Given model.Transmitter → Answered Transmitter
+answered_as g = record { answer = g.answer; next = transmitter_of g.next }
 
 -- "Load: takes the first min(length, room) bytes; answers that number."
-unfoldable pub loads : Transmitter → List ℕ → Answered
+unfoldable pub loads : Transmitter → List ℕ → Answered Transmitter
 loads t l = answered_as (model.loaded (transmitter_in t) l)
 
 -- "Else an owed NL; else the head of the queue; else nothing."
-unfoldable pub sends_next : Settings → Transmitter → (owed : Bool) → Answered
+unfoldable pub sends_next : Settings → Transmitter → (owed : Bool) → Answered Transmitter
 sends_next s t owed = answered_as (model.send_next s (transmitter_in t) owed (transmitter_in t).bytes)
 
 -- "Line turn, one character time."
-unfoldable pub turns : Settings → Flags → Transmitter → Answered
+unfoldable pub turns : Settings → Flags → Transmitter → Answered Transmitter
 turns s f t = answered_as (model.turned s f (transmitter_in t) (transmitter_in t).special)
 
 -- CTS, and refusal 10, "CTS neither 0 nor 1"
-unfoldable pub sets_cts : Transmitter → ℕ → Answered
+unfoldable pub sets_cts : Transmitter → ℕ → Answered Transmitter
 sets_cts t value = answered_as (model.cts_set (transmitter_in t) value)
 
 -- "Special s from 1 to 4: the present special character s waits for the next turn."
-unfoldable pub asks_special : Settings → Transmitter → ℕ → Answered
+unfoldable pub asks_special : Settings → Transmitter → ℕ → Answered Transmitter
 asks_special s t number = answered_as (model.special_asked s (transmitter_in t) number)

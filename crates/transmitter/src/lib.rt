@@ -5,9 +5,8 @@ ghost use Rattle.std.specs.Prelude.{◌≡◌, false, ◌&&◌, ◌<◌, ◌≤�
 ghost use Rattle.paper.specs.Arrival.{NL};
 ghost use Rattle.paper.specs.Transmitter.{fresh_transmitter, held, special_character};
 ghost use Rattle.transmitter.specs.Held.{Sound, transmitter_of, transmitter_in, loads, sends_next, turns, sets_cts, asks_special};
-ghost use Rattle.transmitter.specs.Held.{with_queue, with_owed, with_special, with_cts};
 
-use paper::{Answer, Flags, Refusal, Settings};
+use paper::{Answer, Answered, Flags, Refusal, Settings};
 
 // "a transmit queue of 12 bytes", the oldest at place 0, zeros behind the last; an owed NL; whether a special character waits, and
 // which (0 where none does); CTS.
@@ -20,13 +19,6 @@ pub struct Transmitter {
     pub waits: bool,
     pub special: u8,
     pub cts: bool,
-}
-
-// What a call answers, and the transmitter after it.
-#[derive(Clone, Copy)]
-pub struct Answered {
-    pub answer: Answer,
-    pub transmitter: Transmitter,
 }
 
 // "CR 0D, NL 0A"
@@ -43,8 +35,8 @@ impl Transmitter {
         ensures { result ≡ transmitter_of fresh_transmitter }
     {
         Transmitter {
-            bytes: [0u8; Transmitter::DEPTH],
             count: 0,
+            bytes: [0; Transmitter::DEPTH],
             owed: false,
             waits: false,
             special: 0,
@@ -52,83 +44,42 @@ impl Transmitter {
         }
     }
 
-    // The same record, but for the parts that are named. With these four, no code but `fresh` lists the fields.
-    fn with_queue(
-        mut self,
-        count: usize,
-        bytes: [u8; Transmitter::DEPTH],
-        owed: bool,
-    ) -> Transmitter
-        ensures { result ≡ with_queue count bytes owed self }
-    {
-        self.count = count;
-        self.bytes = bytes;
-        self.owed = owed;
-        self
-    }
-
-    fn with_owed(mut self, owed: bool) -> Transmitter
-        ensures { result ≡ with_owed owed self }
-    {
-        self.owed = owed;
-        self
-    }
-
-    fn with_special(mut self, waits: bool, special: u8) -> Transmitter
-        ensures { result ≡ with_special waits special self }
-    {
-        self.waits = waits;
-        self.special = special;
-        self
-    }
-
-    fn with_cts(mut self, cts: bool) -> Transmitter
-        ensures { result ≡ with_cts cts self }
-    {
-        self.cts = cts;
-        self
-    }
-
     // "takes the first min(length, room) bytes; answers that number. Load of nothing takes 0."
     #[tactic(auto, unfolding(paper::specs::Transmitter::transmit_depth))]
-    pub fn load(self, bytes: &[u8]) -> Answered
+    pub fn load(mut self, bytes: &[u8]) -> Answered<Transmitter>
         requires { Sound self }
         ensures { result ≡ loads self bytes.now }
     {
         let count = self.count;
-        let room = Transmitter::DEPTH - count;
-        let taken = arrays::least(bytes.len(), room);
-        let mut queue = self.bytes;
-        let mut i: usize = 0;
-        while i < taken {
-            queue[count + i] = bytes[i];
-            i += 1;
-        }
-        let count = count + taken;
+        let taken = bytes.len().min(Transmitter::DEPTH - count);
+        self.bytes[count..count + taken].copy_from_slice(&bytes[..taken]);
+        self.count = count + taken;
         Answered {
             answer: Answer::Took(taken),
-            transmitter: self.with_queue(count, queue, self.owed),
+            next: self,
         }
     }
 
     // "A waiting special goes first, even when stopped or CTS is 0, even between CR and its NL. Else nothing goes if stopped, or if
     // field 9 is 1 and CTS is 0."
     #[tactic(auto, unfolding(crate::specs::Held::sends_next, crate::specs::Held::transmitter_in))]
-    pub fn turn(self, s: Settings, f: Flags) -> Answered
+    pub fn turn(mut self, s: Settings, f: Flags) -> Answered<Transmitter>
         requires { Sound self }
         ensures { result ≡ turns s f self }
     {
-        let first = self.waits;
-        if first {
+        if self.waits {
+            let special = self.special;
+            self.waits = false;
+            self.special = 0;
             return Answered {
-                answer: Answer::Sent(self.special),
-                transmitter: self.with_special(false, 0),
+                answer: Answer::Sent(special),
+                next: self,
             };
         }
         if self.is_held(s, f) {
             return Answered {
                 answer: Answer::Silent,
-                transmitter: self,
+                next: self,
             };
         }
         self.send_next(s)
@@ -139,31 +90,26 @@ impl Transmitter {
     fn is_held(self, s: Settings, f: Flags) -> bool
         ensures { result ≡ held s f (transmitter_in self) }
     {
-        if !f.running {
-            return true;
-        }
-        if s.hold == 1 {
-            return !self.cts;
-        }
-        false
+        !f.running || s.hold == 1 && !self.cts
     }
 
     // "Else an owed NL; else the head of the queue; else nothing." "An owed NL is sent even if field 10 was since turned off."
     #[tactic(auto, unfolding(crate::specs::Held::sends_next))]
-    fn send_next(self, s: Settings) -> Answered
+    fn send_next(mut self, s: Settings) -> Answered<Transmitter>
         requires { Sound self }
         ensures { result ≡ sends_next s self self.owed }
     {
         if self.owed {
+            self.owed = false;
             return Answered {
                 answer: Answer::Sent(NL),
-                transmitter: self.with_owed(false),
+                next: self,
             };
         }
         if self.count == 0 {
             return Answered {
                 answer: Answer::Silent,
-                transmitter: self,
+                next: self,
             };
         }
         self.send_head(s)
@@ -171,74 +117,63 @@ impl Transmitter {
 
     // "With field 10, a queued NL goes out as CR, leaves the queue and owes an NL."
     #[tactic(auto, unfolding(paper::specs::Transmitter::transmit_depth))]
-    fn send_head(self, s: Settings) -> Answered
+    fn send_head(mut self, s: Settings) -> Answered<Transmitter>
         requires { (Sound self) × (0 < self.count) }
         ensures { result ≡ sends_next s self false }
     {
-        let head = self.bytes[0];
-        let bytes_before = self.bytes;
-        let mut bytes = [0u8; Transmitter::DEPTH];
-        arrays::close_up(&bytes_before, 1, &mut bytes);
-        let count = self.count - 1;
-        let owed = owes_nl(s, head);
-        let transmitter = self.with_queue(count, bytes, owed);
-        if owed {
-            return Answered {
-                answer: Answer::Sent(CR),
-                transmitter,
-            };
-        }
+        let queued = self.bytes;
+        self.bytes = [0; Transmitter::DEPTH];
+        arrays::close_up(&queued, 1, &mut self.bytes);
+        self.count -= 1;
+        self.owed = owes_nl(s, queued[0]);
         Answered {
-            answer: Answer::Sent(head),
-            transmitter,
+            answer: Answer::Sent(if self.owed { CR } else { queued[0] }),
+            next: self,
         }
     }
 
     // Refusal 10, "CTS neither 0 nor 1"
     #[tactic(auto, unfolding(crate::specs::Held::sets_cts))]
-    pub fn set_cts(self, value: u8) -> Answered
+    pub fn set_cts(mut self, value: u8) -> Answered<Transmitter>
         requires { Sound self }
         ensures { result ≡ sets_cts self value }
     {
         if 1 < value {
             return Answered {
                 answer: Answer::Refused(Refusal::BadCts),
-                transmitter: self,
+                next: self,
             };
         }
+        self.cts = value == 1;
         Answered {
             answer: Answer::Done,
-            transmitter: self.with_cts(value == 1),
+            next: self,
         }
     }
 
     // "the present special character s waits for the next turn"; refusal 6, "special not 1 to 4", before 7, "a special already waits"
     #[tactic(auto, unfolding(crate::specs::Held::asks_special))]
-    pub fn ask_special(self, s: Settings, number: u8) -> Answered
+    pub fn ask_special(mut self, s: Settings, number: u8) -> Answered<Transmitter>
         requires { Sound self }
         ensures { result ≡ asks_special s self number }
     {
-        if number < 1 {
+        if !(1..=4).contains(&number) {
             return Answered {
                 answer: Answer::Refused(Refusal::BadSpecial),
-                transmitter: self,
-            };
-        }
-        if 4 < number {
-            return Answered {
-                answer: Answer::Refused(Refusal::BadSpecial),
-                transmitter: self,
+                next: self,
             };
         }
         if self.waits {
             return Answered {
                 answer: Answer::Refused(Refusal::SpecialWaits),
-                transmitter: self,
+                next: self,
             };
         }
+        self.waits = true;
+        self.special = special_character(s, number);
         Answered {
             answer: Answer::Done,
-            transmitter: self.with_special(true, special_character(s, number)),
+            next: self,
         }
     }
 }
@@ -247,10 +182,7 @@ impl Transmitter {
 fn owes_nl(s: Settings, b: u8) -> bool
     ensures { result ≡ (eqb s.expand 1 && eqb b NL) }
 {
-    if s.expand == 1 {
-        return b == NL;
-    }
-    false
+    s.expand == 1 && b == NL
 }
 
 // Fields 11 to 14: "special characters 1 to 4".
@@ -259,6 +191,5 @@ fn special_character(s: Settings, number: u8) -> u8
     ensures { result ≡ special_character s number }
 {
     let characters = [s.xon, s.xoff, s.third, s.fourth];
-    let place = (number - 1) as usize;
-    characters[place]
+    characters[usize::from(number - 1)]
 }

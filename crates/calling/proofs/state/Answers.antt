@@ -3,4 +3,4 @@ use Rattle.calling.proofs.Answers.{fits}
 use Rattle.calling.proofs.state.Goals as goal
 
 pub put_state-requires : goal.put_state-requires
-put_state-requires c = (omega arith, fits _ _ _ _ c.state-answer.ensures c.requires.0)
+put_state-requires c = (omega arith, fits _ _ _ _ c.state.ensures c.requires.0)

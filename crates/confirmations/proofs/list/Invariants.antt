@@ -7,8 +7,8 @@ abbrev pub invariant-loop-at : goal.invariant-loop-at
 invariant-loop-at g l =
     record {
       begun : Begun l.piece l.initial.search l.at l.search;
-      room : longest ≤ length l.out;
-      same : length l.out ≡ length l.initial.out;
+      room : longest ≤ l.page.capacity;
+      same : l.page.capacity ≡ l.initial.page.capacity;
     }
 
 abbrev pub decreases-loop-at : goal.decreases-loop-at

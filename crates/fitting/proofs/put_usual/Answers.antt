@@ -1,12 +1,19 @@
-use Rattle.std.proofs.Common.{◌<◌, arith, rules}
-use Rattle.fitting.proofs.Rates.{no_lines, one_line_more, all_lines}
+use Rattle.std.proofs.Common.{arith}
+use Rattle.paper.specs.RateLines.{usual_rates}
+use Rattle.page.proofs.Laws.{each_room, one_more, all_put, none_put}
+use Rattle.fitting.specs.Lines.{longest_line}
+use Rattle.fitting.proofs.Rates.{line_of, all_lines}
 use Rattle.fitting.proofs.put_usual.Goals as goal
 
-pub loop-i-init : goal.loop-i-init
-loop-i-init c = search (rules, no_lines)
+pub loop-rate-init : goal.loop-rate-init
+loop-rate-init c = none_put (line_of c.args.clock) longest_line usual_rates _
 
-pub loop-i-preserved : goal.loop-i-preserved
-loop-i-preserved c = let h : c.loop-i.i < 20 = omega arith in search (rules, one_line_more)
+pub put_number-requires : goal.put_number-requires
+put_number-requires c = each_room (line_of c.args.clock) longest_line usual_rates c.loop-rate.invariant (omega arith) (omega arith)
+
+pub loop-rate-preserved : goal.loop-rate-preserved
+loop-rate-preserved c =
+    one_more (line_of c.args.clock) longest_line usual_rates c.loop-rate.invariant 0 (omega arith) c.put_number.ensures.short c.put_number.ensures.text
 
 pub returns : goal.returns
-returns c = all_lines c.loop-i.invariant (omega arith)
+returns c = rw all_lines at (all_put (line_of c.args.clock) longest_line usual_rates c.loop-rate.invariant (omega arith))

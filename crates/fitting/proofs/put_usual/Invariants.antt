@@ -1,11 +1,9 @@
 -- The lines so far are written.
-use Rattle.std.proofs.Common.{◌-◌}
 use Rattle.paper.specs.RateLines.{usual_rates}
-use Rattle.fitting.proofs.Rates.{Lines}
+use Rattle.page.proofs.Laws.{EachPut}
+use Rattle.fitting.specs.Lines.{longest_line}
+use Rattle.fitting.proofs.Rates.{line_of}
 use Rattle.fitting.proofs.put_usual.Given as goal
 
-abbrev pub invariant-loop-i : goal.invariant-loop-i
-invariant-loop-i l = Lines usual_rates l.clock l.fn.out l.fn.at l.out l.end l.i
-
-abbrev pub decreases-loop-i : goal.decreases-loop-i
-decreases-loop-i l = 20 - l.i
+abbrev pub invariant-loop-rate : goal.invariant-loop-rate
+invariant-loop-rate l = EachPut (line_of l.clock) longest_line usual_rates l.fn.page l.rate-index l.page

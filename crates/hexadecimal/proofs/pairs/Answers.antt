@@ -1,10 +1,10 @@
-use Rattle.std.proofs.Common.{arith}
+use Rattle.std.proofs.Common.{arith, refl}
 use Rattle.hexadecimal.proofs.Bytes.{or_above}
 use Rattle.hexadecimal.proofs.Pieces.{paired_start, paired_more}
 use Rattle.hexadecimal.proofs.pairs.Goals as goal
 
 pub loop-count-init : goal.loop-count-init
-loop-count-init c = record { place = omega arith; few = omega arith; paired = paired_start c.requires.from_in_bounds.0 c.requires.from_in_bounds.1 }
+loop-count-init c = paired_start c.requires.from_in_bounds.0 c.requires.from_in_bounds.1
 
 pub overflow_add-frame : goal.overflow_add-frame
 overflow_add-frame c = omega (arith, or_above c.value-high.result c.value-low.result)
@@ -14,11 +14,5 @@ overflow_mul-frame c = omega (arith, or_above c.value-high.result c.value-low.re
 
 pub loop-count-preserved : goal.loop-count-preserved
 loop-count-preserved c =
-    let inv = c.loop-count.invariant in
-    record {
-      place = omega arith;
-      few = omega arith;
-      paired =
-          paired_more c.value-high.result c.value-low.result inv.paired (omega arith) inv.place (omega arith) c.value-high.ensures c.value-low.ensures
-          c.if-high-low-gt15.false;
-    }
+    paired_more c.value-high.result c.value-low.result c.loop-count.invariant (omega arith) refl (omega arith) c.value-high.ensures c.value-low.ensures
+    c.if-high-low-gt15.false

@@ -1,19 +1,9 @@
-use Rattle.std.proofs.Common.{rules, arith}
-use Rattle.hexadecimal.proofs.Laws.{wrote_none, wrote_more, wrote_all}
+use Rattle.std.proofs.Common.{arith}
+use Rattle.hexadecimal.proofs.Laws.{room_for_more, put_more}
 use Rattle.hexadecimal.proofs.put_bytes.Goals as goal
 
-pub loop-i-init : goal.loop-i-init
-loop-i-init c = record { within = omega arith; place = omega arith; room = search rules; wrote = wrote_none }
+pub put_byte-requires : goal.put_byte-requires
+put_byte-requires c = room_for_more c.args.bytes.now c.loop-byte.byte-index _ _ c.loop-byte.invariant (omega arith) c.requires
 
-pub loop-i-preserved : goal.loop-i-preserved
-loop-i-preserved c =
-    let written = c.put_byte-end.ensures in
-    record {
-      within = omega arith;
-      place = omega (arith, written.place);
-      room = search rules;
-      wrote = wrote_more c.args.bytes.now c.loop-i.i c.loop-i.invariant.wrote (omega arith) written;
-    }
-
-pub returns : goal.returns
-returns c = wrote_all c.args.bytes.now c.loop-i.i c.loop-i.invariant.wrote (omega arith)
+pub loop-byte-preserved : goal.loop-byte-preserved
+loop-byte-preserved c = put_more c.args.bytes.now c.loop-byte.byte-index _ _ c.loop-byte.invariant _ (omega arith) c.put_byte.ensures

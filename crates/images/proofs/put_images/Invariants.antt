@@ -1,18 +1,15 @@
-use Rattle.std.proofs.Common.{length, take, ◌-◌, ◌≡◌, ◌*◌, ◌≤◌}
-use Rattle.paper.specs.Stream.{images}
+use Rattle.std.proofs.Common.{length, take, ◌≡◌, ◌*◌, ◌≤◌}
 use Rattle.paper.specs.Channel.{written}
-use Rattle.images.specs.Code.{items_in}
+use Rattle.images.specs.Code.{images_in}
 use Rattle.images.proofs.put_images.Given as goal
 
-abbrev pub invariant-loop-i : goal.invariant-loop-i
-invariant-loop-i l =
+abbrev pub invariant-loop-kind : goal.invariant-loop-kind
+invariant-loop-kind l =
+    let ks = take (length l.yielded) l.kinds in
+    let bs = take (length l.yielded) l.bytes in
     record {
-      reached : l.i ≤ length l.kinds;
-      short : l.long ≤ 3 * l.i;
+      short : l.long ≤ 3 * length l.yielded;
       same_length : length l.buffer ≡ length l.initial.buffer;
-      long_is : l.long ≡ length (images (items_in (take l.i l.kinds) (take l.i l.bytes)));
-      buffer_is : l.buffer ≡ written l.initial.buffer l.place (images (items_in (take l.i l.kinds) (take l.i l.bytes)));
+      long_is : l.long ≡ length (images_in ks bs);
+      buffer_is : l.buffer ≡ written l.initial.buffer l.place (images_in ks bs);
     }
-
-abbrev pub decreases-loop-i : goal.decreases-loop-i
-decreases-loop-i l = length l.kinds - l.i

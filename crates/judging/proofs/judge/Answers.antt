@@ -1,10 +1,13 @@
-use borrow.Author.Tests.{eq-eqb}
-use Rattle.paper.specs.Settings.{settings_of, tests, bad_field}
-use Rattle.judging.proofs.FirstBad.{first_is_named}
+use Rattle.std.proofs.Common.{rules, sym, ◌∙◌}
+use Rattle.judging.proofs.FirstBad.{fields_judged}
 use Rattle.judging.proofs.judge.Goals as goal
 
-pub returns-then-bytes-eq15 : goal.returns-then-bytes-eq15
-unfolding bad_field
-returns-then-bytes-eq15 c =
-    rw (eq-eqb _ _ c.if-bytes-eq15.true, c.judge_fields.ensures, c.settings_of.ensures)
-    (first_is_named c.args.bytes.now (tests c.args.most (settings_of c.args.bytes.now)))
+pub returns-in_err-test_fields : goal.returns-in_err-test_fields
+returns-in_err-test_fields c =
+    let judged = fields_judged c.args.most c.args.bytes.now c.in-Some.settings (sym c.settings_of.ensures ∙ c.in-Some.is) in
+    search rules
+
+pub returns : goal.returns
+returns c =
+    let judged = fields_judged c.args.most c.args.bytes.now c.in-Some.settings (sym c.settings_of.ensures ∙ c.in-Some.is) in
+    search rules

@@ -1,5 +1,11 @@
+use Rattle.std.proofs.Common.{rules, []}
+use Rattle.paper.specs.Channel.{arrive}
+use Rattle.channel.specs.Promise.{Promise}
 use Rattle.papergrotto.proofs.Laws.{kept}
 use Rattle.papergrotto.proofs.papergrotto_arrive.Goals as goal
 
 pub returns : goal.returns
-returns c = kept c.arrive-arrived.ensures c.told_of.ensures c.channel_of.ensures
+returns c =
+    let s = c.served.ensures in
+    let promise : Promise c.args.channel.now (arrive c.args.kind c.args.byte) s.0 [] = search rules in
+    kept promise s.2 s.3

@@ -1,5 +1,12 @@
+use Rattle.std.proofs.Common.{rules, []}
+use Rattle.paper.specs.Channel.{transmit}
+use Rattle.paper.specs.Transmitter.{turn}
+use Rattle.channel.specs.Promise.{Promise}
 use Rattle.papergrotto.proofs.Laws.{kept}
 use Rattle.papergrotto.proofs.papergrotto_turn.Goals as goal
 
 pub returns : goal.returns
-returns c = kept c.turn-turned.ensures c.told_of.ensures c.channel_of.ensures
+returns c =
+    let s = c.served.ensures in
+    let promise : Promise c.args.channel.now (transmit turn) s.0 [] = search rules in
+    kept promise s.2 s.3

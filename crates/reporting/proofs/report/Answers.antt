@@ -1,9 +1,9 @@
-use Rattle.std.proofs.Common.{rules}
-use Rattle.reporting.proofs.Loop.{more_piece, goes_on_lem, ends}
+use Rattle.std.proofs.Common.{arith}
+use Rattle.reporting.proofs.Loop.{goes_on_lem, ends}
 use Rattle.reporting.proofs.report.Goals as goal
 
-pub returns-then-is_last : goal.returns-then-is_last
-returns-then-is_last c = search (rules, ends, more_piece)
+pub loop-at-preserved : goal.loop-at-preserved
+loop-at-preserved c = goes_on_lem c.loop-at.invariant c.in-Ok.ensures (omega arith) c.put_told.ensures
 
-pub loop-next-preserved : goal.loop-next-preserved
-loop-next-preserved c = search (rules, goes_on_lem, more_piece)
+pub returns-in-Err : goal.returns-in-Err
+returns-in-Err c = ends c.loop-at.invariant c.in-Err.ensures c.put_stop.ensures

@@ -1,10 +1,9 @@
-use Rattle.std.proofs.Common.{length, ◌-◌, false}
+use Rattle.std.proofs.Common.{length, ◌-◌}
 use Rattle.reporting.proofs.Loop.{Standing}
 use Rattle.reporting.proofs.report.Given as goal
 
-abbrev pub invariant-loop-next : goal.invariant-loop-next
-invariant-loop-next l =
-    Standing l.piece l.initial.at l.initial.search l.initial.out l.initial.end l.at false l.search l.out l.end
+abbrev pub invariant-loop-at : goal.invariant-loop-at
+invariant-loop-at l = Standing l.piece l.initial.at l.initial.search l.initial.page l.at l.search l.page
 
-abbrev pub decreases-loop-next : goal.decreases-loop-next
-decreases-loop-next l = length l.piece - l.at
+abbrev pub decreases-loop-at : goal.decreases-loop-at
+decreases-loop-at l = length l.piece - l.at

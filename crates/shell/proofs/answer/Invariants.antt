@@ -8,8 +8,8 @@ invariant-loop-at g l =
     record {
       begun : Begun l.piece (record { card = l.initial.card; line = l.initial.line; frame = l.initial.frame }) l.at
           (record { card = l.card; line = l.line; frame = l.frame });
-      room : longest ≤ length l.out;
-      same : length l.out ≡ length l.initial.out;
+      room : longest ≤ l.page.capacity;
+      same : l.page.capacity ≡ l.initial.page.capacity;
     }
 
 abbrev pub decreases-loop-at : goal.decreases-loop-at

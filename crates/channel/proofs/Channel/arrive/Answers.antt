@@ -11,7 +11,7 @@ returns-then-kind-gt3 c =
     rw c.refuse.ensures (refuses x c.requires (arrive c.args.kind c.args.byte) BadKind (bad_kind x _ _ (omega arith)))
 
 pub place-placed-requires : goal.place-placed-requires
-place-placed-requires c = (queue_sound c.args.self c.requires, (lit≤ tt, lit≤ tt))
+place-placed-requires c = record { sound = queue_sound c.args.self c.requires; not_0 = lit≤ tt; within = lit≤ tt }
 
 pub returns : goal.returns
 returns c = arrives c.args.self c.requires c.args.kind c.args.byte (omega arith) _ c.arrival-outcome.ensures _ c.place-placed.ensures

@@ -9,4 +9,5 @@ use Rattle.channel.proofs.Channel.ready.Goals as goal
 pub returns : goal.returns
 unfolding at_threshold channel_in
 returns c =
-    let x = c.args.self in ap (leb x.settings.threshold) (count_is _ _ x.queue (queue_sound x c.requires))
+    let x = c.args.self in
+    rw c.from.ensures (ap (leb x.settings.threshold) (count_is _ _ x.queue (queue_sound x c.requires)))

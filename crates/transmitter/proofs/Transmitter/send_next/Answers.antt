@@ -6,8 +6,7 @@ use Rattle.transmitter.proofs.Transmitter.send_next.Goals as goal
 pub returns-then-self : goal.returns-then-self
 unfolding sends_next
 returns-then-self c =
-    rw c.with_owed.ensures
-    (answers _ _ [] (owed_with c.requires _) ∙ ap (sends_next c.args.s c.args.self) (sym c.if-self.true))
+    answers _ _ [] (owed_with c.requires _) ∙ ap (sends_next c.args.s c.args.self) (sym c.if-self.true)
 
 pub returns-then-self-eq0 : goal.returns-then-self-eq0
 returns-then-self-eq0 c =

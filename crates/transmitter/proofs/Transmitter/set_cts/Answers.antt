@@ -10,4 +10,4 @@ returns-then-value-gt1 c = rw (lt-ltb 1 c.args.value (omega arith)) (answers _ _
 
 pub returns : goal.returns
 unfolding sets_cts
-returns c = rw (le-ltb 1 c.args.value c.if-value-gt1.false, c.with_cts.ensures) (answers _ _ _ (cts_with c.requires _))
+returns c = rw (le-ltb 1 c.args.value c.if-value-gt1.false) (answers _ _ _ (cts_with c.requires _))

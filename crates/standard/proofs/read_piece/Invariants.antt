@@ -1,4 +1,0 @@
-use Rattle.standard.proofs.read_piece.Given as goal
-
-abbrev pub decreases-loop-turns : goal.decreases-loop-turns
-decreases-loop-turns g l = l.turns
