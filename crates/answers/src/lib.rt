@@ -23,7 +23,7 @@ fn second_number(answer: Answer) -> u8
     }
 }
 
-// The line of an answer to which nothing was lent, from a place on; answers the place behind it.
+// The line of an answer to which nothing was lent.
 fn put_plain(page: &mut Page<'_>, answer: Answer)
     requires { longest ≤ page.old.room × Small answer [] }
     ensures { page.new ≡ with_text (answer_line answer []) page.old }
