@@ -1,2 +1,2 @@
-mod Frames
+pub mod Frames
 mod Onward

@@ -55,14 +55,14 @@ both_nl first second = onward second (nl_ends first)
 
 -- THE SETTING
 
-followed_is : (first second b : ℕ) → followed first second (b ∷ []) ≡ comes (passed first second b)
+pub followed_is : (first second b : ℕ) → followed first second (b ∷ []) ≡ comes (passed first second b)
 followed_is first second b = go (ending first b)
   where
     go : (o : Option ℕ) → acts second (comes o ++ []) ≡ comes (option_and_then (ending second) o)
     go None = refl
     go (Some c) = append-nil (comes (ending second c))
 
-single_is : (first second : ℕ) → single first second ≡ least_for (passed first second CR) (passed first second NL)
+pub single_is : (first second : ℕ) → single first second ≡ least_for (passed first second CR) (passed first second NL)
 unfolding single least_for works
 single_is first second = rw (← followed_is first second CR, ← followed_is first second NL)
 

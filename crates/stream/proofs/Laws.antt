@@ -48,7 +48,7 @@ nothing_left s [] e = refl
 nothing_left s (b ∷ rest) e = absurd (let z : ◌≡◌ {A = ℕ} 0 1 = cc in omega arith)
 
 -- "either output shorter than the input"
-short : (s sorts bytes : List ℕ) → (length sorts < length s) ⊎ (length bytes < length s)
+pub short : (s sorts bytes : List ℕ) → (length sorts < length s) ⊎ (length bytes < length s)
     → decode s sorts bytes ≡ record { answer = Err ShortOutput; sorts = sorts; bytes = bytes }
 unfolding decode
 short s sorts bytes (inl h) = rw (lt-ltb _ _ h)
@@ -97,7 +97,7 @@ module _ (s sorts bytes : List ℕ) (h : length s ≤ length sorts) (k : length 
   unfolding decode
   enough = rw (le-ltb _ _ h, le-ltb _ _ k)
 
-  refuses : (place : ℕ) → Some place ≡ scanned s (readout s).rest
+  pub refuses : (place : ℕ) → Some place ≡ scanned s (readout s).rest
       → decode s sorts bytes ≡ record { answer = Err (BrokenStream place); sorts = sorts; bytes = bytes }
   refuses place e = enough ∙ go (readout s).rest e
     where
@@ -106,7 +106,7 @@ module _ (s sorts bytes : List ℕ) (h : length s ≤ length sorts) (k : length 
       go [] e = absurd (let z : ◌≡◌ {A = ℕ} 0 1 = cc in omega arith)
       go (b ∷ rest) e = cc
 
-  serves : None ≡ scanned s (readout s).rest
+  pub serves : None ≡ scanned s (readout s).rest
       → decode s sorts bytes
       ≡ record {
         answer = Ok (length (readout s).characters);
@@ -116,7 +116,7 @@ module _ (s sorts bytes : List ℕ) (h : length s ≤ length sorts) (k : length 
   serves e = enough ∙ rw (nothing_left s (readout s).rest e)
 
 -- what is read is the answer and both buffers; its numbers follow
-promised : {s sorts bytes : List ℕ} {d : Decoded} → decode s sorts bytes ≡ d → Promise s sorts bytes d
+pub promised : {s sorts bytes : List ℕ} {d : Decoded} → decode s sorts bytes ≡ d → Promise s sorts bytes d
 promised e = record { gives = sym e; says = rw e }
 
 module _ (s sorts bytes : List ℕ) where
