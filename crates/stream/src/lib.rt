@@ -43,9 +43,12 @@ fn split_item(stream: &[u8]) -> Option<(Item, &[u8])>
     ensures { MatchOption result (Stops stream.now) (λ x. SplitsInto stream.now x.0 x.1.now) }
 {
     match stream {
-        [FF, FF, behind @ ..] => Some((Item::Good(FF), behind)),
-        [FF, 0, byte, behind @ ..] => Some((Item::Damaged(*byte), behind)),
-        [FF, ..] | [] => None,
+        [] => None,
+        [FF, marked @ ..] => match marked {
+            [FF, behind @ ..] => Some((Item::Good(FF), behind)),
+            [0, byte, behind @ ..] => Some((Item::Damaged(*byte), behind)),
+            _ => None,
+        },
         [byte, behind @ ..] => Some((Item::Good(*byte), behind)),
     }
 }

@@ -1,18 +1,16 @@
 -- The record's calls do what the paper's definitions say.
 use mathlib.Core.Path.{◌≡◌, refl, ap, sym, ◌∙◌}
 use mathlib.Core.Bool.{Bool, true, false, ◌&&◌, ◌||◌}
-use mathlib.Core.List.{List, [], ◌∷◌, ◌++◌, append_assoc}
+use mathlib.Core.List.{List, [], ◌∷◌, ◌++◌, append-nil}
 use mathlib.Core.Option.{Option, none, some}
 use Prim.Native.Nat.{ℕ, ◌+◌, ◌-◌, ◌<◌, ◌≤◌, min}
 use native.Mathlib.Omega.{arith}
 use native.Mathlib.Nat.{min_comm}
 use lib.Dec.{eqb, ltb}
-use lib.ListN.{length, take, drop, get_or, replicate, length-append, length-take, length-drop}
-use lib.Seq.{take-append_seam, drop-append_seam}
-use borrow.Rule.Slice.PartMut.{put_mid}
-use Rattle.std.proofs.lemmas.List.{drop-replicate}
+use lib.ListN.{length, take, drop, get_or, replicate, length-append, length-take, length-drop, set}
+use lib.Seq.{take-append_seam}
 use Rattle.arrays.specs.Padded.{padded}
-use Rattle.arrays.proofs.Laws.{padded_length, padded_head, padded_drop, take_min}
+use Rattle.arrays.proofs.Laws.{padded_length, padded_head, padded_drop, padded_more, take_min}
 use Rattle.std.specs.Prelude.{if◌then◌else◌}
 use Rattle.paper.specs.Given.{Given, given}
 use Rattle.paper.specs.Arrival.{CR, NL}
@@ -162,36 +160,33 @@ module _ (s : Settings) (t : Transmitter) (sound : Sound t) (waiting : 0 < t.cou
 
 -- A load writes new bytes behind those that wait
 
-padded_behind : (places k : ℕ) (l new : List ℕ) → length new ≡ k → length l + k ≤ places
-    → put_mid (length l) k (padded places l) new ≡ padded places (l ++ new)
-padded_behind places k l new e h =
-    let f : places - length l - k ≡ places - length (l ++ new) = omega (arith, length-append l new) in
-    rw (take-append_seam, drop-append_seam, drop-replicate, f, append_assoc)
-
 pub load_room : (t : Transmitter) → Sound t → t.count ≤ transmit_depth
 load_room t sound = omega (arith, (parts t sound).count, sound.sending)
 
-module _ (t : Transmitter) (sound : Sound t) (new : List ℕ) where
-  written_behind : (k : ℕ) (part : List ℕ) → length part ≡ k → t.count + k ≤ transmit_depth
-      → put_mid t.count k t.bytes part ≡ padded transmit_depth ((transmitter_in t).bytes ++ part)
-  written_behind k part e h =
-      let p = parts t sound in
-      let l = (transmitter_in t).bytes in
-      ap (λ (x : List ℕ). put_mid t.count k x part) p.bytes
-      ∙ ap (λ (n : ℕ). put_mid n k (padded transmit_depth l) part) p.count
-      ∙ padded_behind transmit_depth k l part e (omega arith)
+-- the array with so many of the new bytes written behind those that wait
+abbrev pub written_to : Transmitter → (new : List ℕ) → (i : ℕ) → List ℕ
+written_to t new i = padded transmit_depth ((transmitter_in t).bytes ++ take i new)
 
-  pub load_end : {part : List ℕ} (taken k : ℕ) → taken ≡ min (length new) (transmit_depth - t.count) → k ≡ taken → part ≡ take taken new
-      → ◌≡◌ {A = Answered Transmitter}
-      (record { answer = Took taken; next = with_queue (t.count + taken) (put_mid t.count k t.bytes part) t.owed t }) (loads t new)
+module _ (t : Transmitter) (sound : Sound t) (new : List ℕ) where
+  pub load_start : t.bytes ≡ written_to t new 0
+  load_start = (parts t sound).bytes ∙ ap (padded transmit_depth) (sym (append-nil (transmitter_in t).bytes))
+
+  pub load_step : (i : ℕ) → t.count + i < transmit_depth → i < length new
+      → set (written_to t new i) (t.count + i) (get_or new i 0) ≡ written_to t new (i + 1)
+  load_step i h k =
+      let p = parts t sound in
+      ap (λ (n : ℕ). set (written_to t new i) (n + i) (get_or new i 0)) p.count
+      ∙ padded_more transmit_depth (transmitter_in t).bytes new i (omega arith) k
+
+  pub load_end : {bytes : List ℕ} (taken : ℕ) → taken ≡ min (length new) (transmit_depth - t.count) → bytes ≡ written_to t new taken
+      → ◌≡◌ {A = Answered Transmitter} (record { answer = Took taken; next = with_queue (t.count + taken) bytes t.owed t }) (loads t new)
   unfolding loads model.loaded transmitter_in
-  load_end {part} taken k e same written =
+  load_end taken e written =
       let p = parts t sound in
       let l = (transmitter_in t).bytes in
       let room = transmit_depth - length l in
       let f : taken ≡ min (length new) room = e ∙ ap (λ (n : ℕ). min (length new) (transmit_depth - n)) p.count in
-      let g : part ≡ take room new = written ∙ ap (λ (n : ℕ). take n new) (f ∙ min_comm (length new) room) ∙ take_min room new in
-      let few : length part ≡ k = omega (arith, ap length written, length-take taken new) in
+      let g : take taken new ≡ take room new = ap (λ (n : ℕ). take n new) (f ∙ min_comm (length new) room) ∙ take_min room new in
       let counted : t.count + taken ≡ length (l ++ take room new) = omega (arith, length-append l (take room new), length-take room new) in
-      let filled = written_behind k part few (omega (arith, load_room t sound)) ∙ ap (λ (x : List ℕ). padded transmit_depth (l ++ x)) g in
+      let filled = written ∙ ap (λ (x : List ℕ). padded transmit_depth (l ++ x)) g in
       rw (← f) (answers _ _ _ (queue_with sound (l ++ take room new) t.owed counted filled))

@@ -52,7 +52,11 @@ impl Transmitter {
     {
         let count = self.count;
         let taken = bytes.len().min(Transmitter::DEPTH - count);
-        self.bytes[count..count + taken].copy_from_slice(&bytes[..taken]);
+        let mut queue = self.bytes;
+        for i in 0..taken {
+            queue[count + i] = bytes[i];
+        }
+        self.bytes = queue;
         self.count = count + taken;
         Answered {
             answer: Answer::Took(taken),

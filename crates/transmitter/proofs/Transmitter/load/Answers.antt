@@ -1,19 +1,23 @@
-use Rattle.std.proofs.Common.{arith, rules}
+use Rattle.std.proofs.Common.{arith, ap, ◌∙◌, ◌≡◌}
 use Rattle.paper.specs.Transmitter.{transmit_depth}
-use Rattle.transmitter.proofs.Laws.{load_room, load_end}
+use Rattle.transmitter.proofs.Laws.{load_room, written_to, load_start, load_step, load_end}
 use Rattle.transmitter.proofs.Transmitter.load.Goals as goal
 
 pub overflow_sub-count : goal.overflow_sub-count
 unfolding transmit_depth
 overflow_sub-count c = omega (arith, load_room c.args.self c.requires)
 
-pub slice_bounds-copy_from_slice-end : goal.slice_bounds-copy_from_slice-end
+pub loop-i-init : goal.loop-i-init
+loop-i-init c = load_start c.args.self c.requires c.args.bytes.now
+
+pub loop-i-preserved : goal.loop-i-preserved
 unfolding transmit_depth
-slice_bounds-copy_from_slice-end c =
-    let room = load_room c.args.self c.requires in
-    search rules
+loop-i-preserved c =
+    rw c.loop-i.invariant (load_step c.args.self c.requires c.args.bytes.now c.loop-i.i (omega arith) (omega arith))
 
 pub returns : goal.returns
 unfolding transmit_depth
 returns c =
-    load_end c.args.self c.requires c.args.bytes.now c.min-taken.result _ c.min-taken.ensures (omega arith) c.copy_from_slice.ensures.after
+    let e : c.loop-i.i ≡ c.min-taken.result = omega arith in
+    load_end c.args.self c.requires c.args.bytes.now c.min-taken.result c.min-taken.ensures
+    (c.loop-i.invariant ∙ ap (written_to c.args.self c.args.bytes.now) e)
