@@ -22,15 +22,22 @@ use channel::Channel;
 use paper::Answered;
 use telling::Told;
 
-// A call on the record that is lent: what it leaves is stored where the record stood, and what it answers is told.
+// What a call leaves is stored where the record stood, and what it answers is told.
+fn stored(channel: &mut Channel, answered: Answered<Channel>) -> Told
+    ensures { (result ≡ told answered.answer) × (channel.new ≡ answered.next) }
+{
+    *channel = answered.next;
+    telling::tell(answered.answer)
+}
+
+// A call on the record that is lent.
 fn served<F: FnOnce(Channel) -> Answered<Channel>>(channel: &mut Channel, call: F) -> Told
     requires { F.pre call channel.old }
     ensures { (r : Answered Channel) × F.post call channel.old r
         × (result ≡ told r.answer) × (channel.new ≡ r.next) }
 {
     let answered = call(*channel);
-    *channel = answered.next;
-    telling::tell(answered.answer)
+    stored(channel, answered)
 }
 
 // A fresh record.
@@ -73,8 +80,7 @@ pub extern "C" fn papergrotto_read(
 {
     let old = *channel;
     let given = old.read(n, buffer, place);
-    *channel = given.next;
-    telling::tell(given.answer)
+    stored(channel, given)
 }
 
 // "Load: takes the first min(length, room) bytes; answers that number."
