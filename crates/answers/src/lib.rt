@@ -2,7 +2,7 @@
 #![tactic(auto)]
 
 ghost use Rattle.std.specs.Prelude.{◌≡◌, [], ◌≤◌};
-ghost use Rattle.page.specs.Page.{with_text};
+ghost use Rattle.page.specs.Page.{shown, with_text};
 ghost use Rattle.printing.specs.Printed.{longest};
 ghost use Rattle.answers.specs.AnswerLine.{second_number, answer_line, Small};
 
@@ -25,8 +25,8 @@ fn second_number(answer: Answer) -> u8
 
 // The line of an answer to which nothing was lent.
 fn put_plain(page: &mut Page<'_>, answer: Answer)
-    requires { longest ≤ page.old.room × Small answer [] }
-    ensures { page.new ≡ with_text (answer_line answer []) page.old }
+    requires { longest ≤ (shown page.old).room × Small answer [] }
+    ensures { shown page.new ≡ with_text (answer_line answer []) (shown page.old) }
 {
     match answer {
         Answer::Refused(refusal) => printing::put_refused(page, refusal),
@@ -44,8 +44,8 @@ fn put_plain(page: &mut Page<'_>, answer: Answer)
 
 // The answer's line: what a read handed over stands in the lent bytes, and of any other answer nothing does.
 pub fn put_answer(page: &mut Page<'_>, answer: Answer, lent: &[u8])
-    requires { longest ≤ page.old.room × Small answer lent.now }
-    ensures { page.new ≡ with_text (answer_line answer lent.now) page.old }
+    requires { longest ≤ (shown page.old).room × Small answer lent.now }
+    ensures { shown page.new ≡ with_text (answer_line answer lent.now) (shown page.old) }
 {
     match answer {
         Answer::Handed(characters, flagged, bytes) => printing::put_handed(
@@ -60,8 +60,8 @@ pub fn put_answer(page: &mut Page<'_>, answer: Answer, lent: &[u8])
 
 // An arrival's answer: a fate, but for a refusal.
 pub fn put_arrival(page: &mut Page<'_>, answer: Answer)
-    requires { longest ≤ page.old.room × Small answer [] }
-    ensures { page.new ≡ with_text (answer_line answer []) page.old }
+    requires { longest ≤ (shown page.old).room × Small answer [] }
+    ensures { shown page.new ≡ with_text (answer_line answer []) (shown page.old) }
 {
     match answer {
         Answer::Fated(fate) => printing::put_pair(page, 0, printing::fate_number(fate)),
@@ -71,8 +71,8 @@ pub fn put_arrival(page: &mut Page<'_>, answer: Answer)
 
 // A load's answer: how many of the bytes it took.
 pub fn put_load(page: &mut Page<'_>, answer: Answer, loaded: &[u8])
-    requires { longest ≤ page.old.room × Small answer loaded.now }
-    ensures { page.new ≡ with_text (answer_line answer loaded.now) page.old }
+    requires { longest ≤ (shown page.old).room × Small answer loaded.now }
+    ensures { shown page.new ≡ with_text (answer_line answer loaded.now) (shown page.old) }
 {
     match answer {
         Answer::Took(taken) => printing::put_pair(page, 0, taken as u8),
@@ -82,8 +82,8 @@ pub fn put_load(page: &mut Page<'_>, answer: Answer, loaded: &[u8])
 
 // A line turn's answer: nothing, or the byte sent.
 pub fn put_turn(page: &mut Page<'_>, answer: Answer)
-    requires { longest ≤ page.old.room × Small answer [] }
-    ensures { page.new ≡ with_text (answer_line answer []) page.old }
+    requires { longest ≤ (shown page.old).room × Small answer [] }
+    ensures { shown page.new ≡ with_text (answer_line answer []) (shown page.old) }
 {
     match answer {
         Answer::Silent => printing::put_pair(page, 0, 0),
@@ -94,8 +94,8 @@ pub fn put_turn(page: &mut Page<'_>, answer: Answer)
 
 // The answer of CTS, special, reset and settings, which were lent bytes: done, but for a refusal.
 pub fn put_change(page: &mut Page<'_>, answer: Answer, bytes: &[u8])
-    requires { longest ≤ page.old.room × Small answer bytes.now }
-    ensures { page.new ≡ with_text (answer_line answer bytes.now) page.old }
+    requires { longest ≤ (shown page.old).room × Small answer bytes.now }
+    ensures { shown page.new ≡ with_text (answer_line answer bytes.now) (shown page.old) }
 {
     match answer {
         Answer::Done => printing::put_alone(page, 0),
@@ -105,8 +105,8 @@ pub fn put_change(page: &mut Page<'_>, answer: Answer, bytes: &[u8])
 
 // The state's answer: what is shown.
 pub fn put_state(page: &mut Page<'_>, answer: Answer)
-    requires { longest ≤ page.old.room × Small answer [] }
-    ensures { page.new ≡ with_text (answer_line answer []) page.old }
+    requires { longest ≤ (shown page.old).room × Small answer [] }
+    ensures { shown page.new ≡ with_text (answer_line answer []) (shown page.old) }
 {
     match answer {
         Answer::Shown(waiting, sending, stopped, losses) => printing::put_shown(

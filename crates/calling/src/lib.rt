@@ -3,6 +3,7 @@
 
 ghost use Rattle.std.proofs.Math.Option.{some};
 ghost use Rattle.std.specs.Prelude.{◌≤◌, replicate};
+ghost use Rattle.page.specs.Page.{shown};
 ghost use Rattle.paper.specs.Transmitter as lines;
 ghost use Rattle.paper.specs.Channel as calls;
 ghost use Rattle.paper.specs.Card as model;
@@ -21,8 +22,8 @@ use page::Page;
 
 // "01 channel kind byte"
 pub fn arrive(c: &mut Channel, kind: u8, byte: u8, page: &mut Page<'_>)
-    requires { channel.Sound c.old × (longest ≤ page.old.room) }
-    ensures { Says c.old (calls.arrive kind byte) page.old c.new page.new }
+    requires { channel.Sound c.old × (longest ≤ (shown page.old).room) }
+    ensures { Says c.old (calls.arrive kind byte) (shown page.old) c.new (shown page.new) }
 {
     let given = c.arrive(kind, byte);
     *c = given.next;
@@ -31,8 +32,8 @@ pub fn arrive(c: &mut Channel, kind: u8, byte: u8, page: &mut Page<'_>)
 
 // "02 channel n (lent 36 bytes, place 0)"
 pub fn read(c: &mut Channel, n: u8, page: &mut Page<'_>)
-    requires { channel.Sound c.old × (longest ≤ page.old.room) }
-    ensures { Says c.old (calls.read n 0 (replicate (lent_bytes (size_of c.old)) 0)) page.old c.new page.new }
+    requires { channel.Sound c.old × (longest ≤ (shown page.old).room) }
+    ensures { Says c.old (calls.read n 0 (replicate (lent_bytes (size_of c.old)) 0)) (shown page.old) c.new (shown page.new) }
 {
     let mut lent = [0u8; paper::LENT];
     let given = c.read(usize::from(n), &mut lent, 0);
@@ -42,8 +43,8 @@ pub fn read(c: &mut Channel, n: u8, page: &mut Page<'_>)
 
 // "03 channel and 0 to 32 bytes"
 pub fn load(c: &mut Channel, bytes: &[u8], page: &mut Page<'_>)
-    requires { channel.Sound c.old × (longest ≤ page.old.room) }
-    ensures { Says c.old (calls.transmit (lines.load bytes.now)) page.old c.new page.new }
+    requires { channel.Sound c.old × (longest ≤ (shown page.old).room) }
+    ensures { Says c.old (calls.transmit (lines.load bytes.now)) (shown page.old) c.new (shown page.new) }
 {
     let given = c.load(bytes);
     *c = given.next;
@@ -52,8 +53,8 @@ pub fn load(c: &mut Channel, bytes: &[u8], page: &mut Page<'_>)
 
 // "04 channel (turn)"
 pub fn turn(c: &mut Channel, page: &mut Page<'_>)
-    requires { channel.Sound c.old × (longest ≤ page.old.room) }
-    ensures { Says c.old (calls.transmit lines.turn) page.old c.new page.new }
+    requires { channel.Sound c.old × (longest ≤ (shown page.old).room) }
+    ensures { Says c.old (calls.transmit lines.turn) (shown page.old) c.new (shown page.new) }
 {
     let given = c.turn();
     *c = given.next;
@@ -62,8 +63,8 @@ pub fn turn(c: &mut Channel, page: &mut Page<'_>)
 
 // "05 channel CTS"
 pub fn set_cts(c: &mut Channel, value: u8, page: &mut Page<'_>)
-    requires { channel.Sound c.old × (longest ≤ page.old.room) }
-    ensures { Says c.old (calls.transmit (lines.set_cts value)) page.old c.new page.new }
+    requires { channel.Sound c.old × (longest ≤ (shown page.old).room) }
+    ensures { Says c.old (calls.transmit (lines.set_cts value)) (shown page.old) c.new (shown page.new) }
 {
     let given = c.set_cts(value);
     *c = given.next;
@@ -72,8 +73,8 @@ pub fn set_cts(c: &mut Channel, value: u8, page: &mut Page<'_>)
 
 // "06 channel special"
 pub fn ask_special(c: &mut Channel, number: u8, page: &mut Page<'_>)
-    requires { channel.Sound c.old × (longest ≤ page.old.room) }
-    ensures { Says c.old (calls.transmit (lines.ask_special number)) page.old c.new page.new }
+    requires { channel.Sound c.old × (longest ≤ (shown page.old).room) }
+    ensures { Says c.old (calls.transmit (lines.ask_special number)) (shown page.old) c.new (shown page.new) }
 {
     let given = c.ask_special(number);
     *c = given.next;
@@ -82,8 +83,8 @@ pub fn ask_special(c: &mut Channel, number: u8, page: &mut Page<'_>)
 
 // "07 channel and 0 to 32 bytes of settings"
 pub fn take_settings(c: &mut Channel, bytes: &[u8], page: &mut Page<'_>)
-    requires { channel.Sound c.old × (longest ≤ page.old.room) }
-    ensures { Says c.old (calls.take_settings bytes.now) page.old c.new page.new }
+    requires { channel.Sound c.old × (longest ≤ (shown page.old).room) }
+    ensures { Says c.old (calls.take_settings bytes.now) (shown page.old) c.new (shown page.new) }
 {
     let given = c.take_settings(bytes);
     *c = given.next;
@@ -92,8 +93,8 @@ pub fn take_settings(c: &mut Channel, bytes: &[u8], page: &mut Page<'_>)
 
 // "09 channel (reset)"
 pub fn reset(c: &mut Channel, page: &mut Page<'_>)
-    requires { channel.Sound c.old × (longest ≤ page.old.room) }
-    ensures { Says c.old calls.reset page.old c.new page.new }
+    requires { channel.Sound c.old × (longest ≤ (shown page.old).room) }
+    ensures { Says c.old calls.reset (shown page.old) c.new (shown page.new) }
 {
     let given = c.reset();
     *c = given.next;
@@ -102,16 +103,16 @@ pub fn reset(c: &mut Channel, page: &mut Page<'_>)
 
 // "0A channel (state)"
 pub fn state(c: &Channel, page: &mut Page<'_>)
-    requires { channel.Sound c.now × (longest ≤ page.old.room) }
-    ensures { Says c.now calls.state page.old c.now page.new }
+    requires { channel.Sound c.now × (longest ≤ (shown page.old).room) }
+    ensures { Says c.now calls.state (shown page.old) c.now (shown page.new) }
 {
     answers::put_state(page, c.state());
 }
 
 // "08 (pick)": answers "the channel picked, FF for none". The card's place after it.
 pub fn pick(card: Card, page: &mut Page<'_>) -> u8
-    requires { Sound card × (longest ≤ page.old.room) }
-    ensures { Answers card (some model.pick) page.old result page.new }
+    requires { Sound card × (longest ≤ (shown page.old).room) }
+    ensures { Answers card (some model.pick) (shown page.old) result (shown page.new) }
 {
     match card.next_ready() {
         None => {

@@ -5,6 +5,7 @@
 #![tactic(auto)]
 
 ghost use Rattle.std.specs.Prelude.{◌≡◌, ◌≤◌};
+ghost use Rattle.page.specs.Page.{shown};
 ghost use Rattle.finding.specs.Bounds.{SoundSearch};
 ghost use Rattle.sheet.specs.Lines.{longest};
 ghost use Rattle.confirmations.specs.Carried.{search_of, GoesOn, Leaves};
@@ -39,8 +40,8 @@ impl Carried {
 // Reports a piece, and writes out what is found whenever there is no room for more, and at the end.
 #[tactic(auto, using(crate::proofs::Pieces::begins, crate::proofs::Pieces::goes_on_sound))]
 fn list(rt: &(impl Print + Eprint), before: Carried, piece: &[u8], page: &mut Page<'_>) -> Carried
-    requires { GoesOn before × (longest ≤ page.old.capacity) }
-    ensures same_page { page.new.capacity ≡ page.old.capacity }
+    requires { GoesOn before × (longest ≤ (shown page.old).capacity) }
+    ensures same_page { (shown page.new).capacity ≡ (shown page.old).capacity }
     ensures sound_search { SoundSearch (search_of result) }
     ensures leaves { Leaves piece.now (search_of before) result }
 {
@@ -64,7 +65,7 @@ fn list(rt: &(impl Print + Eprint), before: Carried, piece: &[u8], page: &mut Pa
 
 // The last line, at the input's end. Whether the output takes it changes nothing more: the program ends.
 fn close(rt: &(impl Print + Eprint), carried: Carried, page: &mut Page<'_>)
-    requires { GoesOn carried × (longest ≤ page.old.capacity) }
+    requires { GoesOn carried × (longest ≤ (shown page.old).capacity) }
 {
     page.clear();
     reporting::finish(carried.search(), page);

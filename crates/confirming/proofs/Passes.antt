@@ -65,7 +65,7 @@ module _ {stream : List ℕ} {e f : Entries} {count : ℕ} (p : Passing stream e
   refuses : (a : Refusal) → r ≡ Err a → Refuses e a
   refuses a h = rw h at n.walks
 
-  ends : {a : Refusal} (q : Refuses e a) → (outcome beginning stream).ending ≡ stopped q.stop
+  ends : {a : Refusal} (q : Refuses e a) → (outcome beginning stream).ending ≡ stopped q.stopped.stop
   ends q =
       sym p.ending
       ∙ ap (λ (bs : List ℕ). (outcome e.search bs).ending) (sym (append-nil (drop e.at e.stream.now)))
@@ -175,7 +175,7 @@ module _ (cs : List Character) (most : ℕ) where
 -- THE SECOND PASS
 
 -- of a stream that has a place for each, all is put in
-all_there : {s : List ℕ} {l : LentList} → HasPlaces s l
+pub all_there : {s : List ℕ} {l : LentList} → HasPlaces s l
     → outcome beginning s ≡ record { entries = entries_in s; ending = ended (sum (readout s).characters) }
 all_there {s} h = by (whole_streams s h.whole) h.counts
   where
@@ -213,7 +213,7 @@ module _ {stream : List ℕ} {e f : Entries} {count : ℕ} (p : Passing stream e
     pub counts_no_further : (a : Refusal) → r ≡ Err a → Err a ≡ counted_in (readout stream).characters most
     counts_no_further a h =
         let q = refuses p n a h in
-        rw q.is (stops_far (readout stream).characters most (whole_streams stream whole) q.stop (ends p n q))
+        rw q.is (stops_far (readout stream).characters most (whole_streams stream whole) q.stopped.stop (ends p n q))
 
 -- THE SECOND PASS: all four columns fill
 pub record Putting (stream : List ℕ) (lent list : LentList) (e : Entries) (count : ℕ) : Type 0 where
@@ -284,4 +284,4 @@ module _ {stream : List ℕ} {lent list : LentList} {e f : Entries} {count : ℕ
     pub never_refused : (a : Refusal) → r ≡ Err a → ⊥
     never_refused a refused =
         let q = refuses i.passing n a refused in
-        never_by q.stop (sym (ap (λ (o : Outcome). o.ending) (all_there h)) ∙ ends i.passing n q)
+        never_by q.stopped.stop (sym (ap (λ (o : Outcome). o.ending) (all_there h)) ∙ ends i.passing n q)

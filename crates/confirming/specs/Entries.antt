@@ -7,6 +7,7 @@ use Rattle.finding.specs.Bounds.{SoundSearch}
 use Rattle.finding.specs.Search.{beginning}
 use Rattle.finding.specs.Walk.{Goes, Stops}
 use Rattle.finding.specs.declared.Stop.{Stop}
+use Rattle.finding.specs.declared.StoppedAt.{StoppedAt}
 use Rattle.finding.specs.declared.Stop.TheVariants.{Broken, Full}
 use Rattle.confirming.specs.declared.Entries.{Entries}
 
@@ -28,9 +29,9 @@ refused (Full place) = TooManyEntries
 
 -- the search goes no further
 pub record Refuses (e : Entries) (a : Refusal) : Type 0 where
-  pub stop : Stop
-  pub is : a ≡ refused stop
-  pub stops : Stops e.stream.now e.at e.search stop
+  pub stopped : StoppedAt
+  pub is : a ≡ refused stopped.stop
+  pub stops : Stops e.stream.now e.at e.search stopped
 
 -- the search goes on to the next byte that tells an entry, or to the end
 pub record Nexts (before after : Entries) (r : Result (Option Entry) Refusal) : Type 0 where

@@ -8,7 +8,7 @@ ghost use Rattle.confirming.specs.Counted.{counted_in, entries_in, HasPlaces, Ha
 ghost use Rattle.confirming.specs.Entries.{Begins, Ready, refused, Nexts};
 ghost use Rattle.confirming.specs.Promise.{columns, Promise};
 
-use finding::{Search, Stop};
+use finding::{Search, Stop, StoppedAt};
 use paper::{Confirmation, Entry, Judgement, Listed, Refusal};
 
 // A pass over the entries of a stream: where it stands in the stream, and the search behind all before.
@@ -43,10 +43,10 @@ impl<'a> Entries<'a> {
 }
 
 // What a stop of the search is refused with.
-fn refusal(stop: Stop) -> Refusal
-    ensures { result ≡ refused stop }
+fn refusal(stopped: StoppedAt) -> Refusal
+    ensures { result ≡ refused stopped.stop }
 {
-    match stop {
+    match stopped.stop {
         Stop::Broken(place) => Refusal::BrokenStream(place),
         Stop::Full(_) => Refusal::TooManyEntries,
     }

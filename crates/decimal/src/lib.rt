@@ -3,7 +3,7 @@
 
 ghost use Rattle.std.specs.Prelude.{◌≡◌, ◌++◌, ◌+◌, ◌≤◌, length, unwrap_or};
 ghost use Rattle.paper.specs.Decimal.{most32, number_of, digits_of, decimal};
-ghost use Rattle.page.specs.Page.{with_text};
+ghost use Rattle.page.specs.Page.{shown, with_text};
 
 use page::Page;
 
@@ -44,16 +44,16 @@ fn digits_of(number: usize) -> usize
 // Without leading zeros.
 #[tactic(auto, using(crate::proofs::Digits::length_decimal), unfolding(paper::specs::Decimal::decimal))]
 pub fn put_decimal(page: &mut Page<'_>, number: usize)
-    requires { length (decimal number) ≤ page.old.room }
-    ensures { page.new ≡ with_text (decimal number) page.old }
+    requires { length (decimal number) ≤ (shown page.old).room }
+    ensures { shown page.new ≡ with_text (decimal number) (shown page.old) }
 {
     page.put_digits(digits_of(number), number);
 }
 
 // A text, and a number behind it.
 pub fn put_behind(page: &mut Page<'_>, told: &[u8], number: usize)
-    requires { length told.now + length (decimal number) ≤ page.old.room }
-    ensures { page.new ≡ with_text (told.now ++ decimal number) page.old }
+    requires { length told.now + length (decimal number) ≤ (shown page.old).room }
+    ensures { shown page.new ≡ with_text (told.now ++ decimal number) (shown page.old) }
 {
     page.put_text(told);
     put_decimal(page, number);

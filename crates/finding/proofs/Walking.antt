@@ -47,8 +47,14 @@ module _ (piece : List ℕ) (from : ℕ) (s : Search) (at : ℕ) (t : Search) (w
           within = omega arith;
         }
 
-    pub walks_to_stop : (e : Stop) → search.take t (get_or piece at 0) ≡ Err e → Stops piece from s e
-    walks_to_stop e is = record { comes = λ rest. w.comes rest ∙ rw (next_byte h, is); further = omega (arith, w.onward) }
+    pub walks_to_stop : (e : Stop) → search.take t (get_or piece at 0) ≡ Err e → Stops piece from s (record { at = at + 1; search = t; stop = e })
+    walks_to_stop e is =
+        record {
+          comes = λ rest. w.comes rest ∙ rw (next_byte h, is);
+          sound = w.sound;
+          further = omega (arith, w.onward);
+          within = omega arith;
+        }
 
   pub walks_to_end : length piece ≤ at → Goes piece from s (record { at = at; search = t; entry = None })
   walks_to_end h = record { follows = w; further = λ k. omega (arith, w.within); to_the_end = λ e. omega (arith, w.within) }

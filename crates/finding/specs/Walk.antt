@@ -4,7 +4,7 @@ use Rattle.paper.specs.declared.Entry.{Entry}
 use Rattle.finding.specs.Bounds.{SoundSearch}
 use Rattle.finding.specs.Search.{ends, stopped, told, outcome}
 use Rattle.finding.specs.declared.Search.{Search}
-use Rattle.finding.specs.declared.Stop.{Stop}
+use Rattle.finding.specs.declared.StoppedAt.{StoppedAt}
 use Rattle.finding.specs.declared.Next.{Next}
 
 -- from one place of a piece to another, whatever follows the piece: what is told, and what is still to come
@@ -20,10 +20,12 @@ pub record Goes (piece : List ℕ) (from : ℕ) (s : Search) (n : Next) : Type 0
   pub further : from < length piece → from < n.at
   pub to_the_end : n.entry ≡ None → n.at ≡ length piece
 
--- a byte of the piece, before any that tells an entry, beyond which it goes no further
-pub record Stops (piece : List ℕ) (from : ℕ) (s : Search) (e : Stop) : Type 0 where
-  pub comes : (rest : List ℕ) → outcome s (drop from piece ++ rest) ≡ ends (stopped e)
-  pub further : from < length piece
+-- a byte of the piece, before any that tells an entry, beyond which it goes no further; it stands behind that byte
+pub record Stops (piece : List ℕ) (from : ℕ) (s : Search) (e : StoppedAt) : Type 0 where
+  pub comes : (rest : List ℕ) → outcome s (drop from piece ++ rest) ≡ ends (stopped e.stop)
+  pub sound : SoundSearch e.search
+  pub further : from < e.at
+  pub within : e.at ≤ length piece
 
-abbrev pub Walks : (piece : List ℕ) (from : ℕ) → Search → Result Next Stop → Type 0
+abbrev pub Walks : (piece : List ℕ) (from : ℕ) → Search → Result Next StoppedAt → Type 0
 Walks piece from s r = MatchResult r (Goes piece from s) (Stops piece from s)

@@ -301,6 +301,14 @@ pub struct Next {
     pub entry: Option<Entry>,
 }
 
+// Where a search stopped in a piece, behind the byte beyond which it goes no further; the search before that byte; and why.
+#[derive(Clone, Copy)]
+pub struct StoppedAt {
+    pub at: usize,
+    pub search: Search,
+    pub stop: Stop,
+}
+
 impl Search {
     // The beginning of a stream.
     pub fn beginning() -> Search
@@ -397,7 +405,7 @@ impl Search {
 
     // Goes on in a piece from a place, to the next byte that tells an entry.
     #[tactic(auto, using(crate::proofs::Walking::follows_start, crate::proofs::Walking::follows_slice, crate::proofs::Walking::walks_to_end, crate::proofs::Walking::walks_to_stop))]
-    pub fn go_on(self, piece: &[u8], from: usize) -> Result<Next, Stop>
+    pub fn go_on(self, piece: &[u8], from: usize) -> Result<Next, StoppedAt>
         requires sound_search { SoundSearch self }
         requires from_in_bounds { from ≤ length piece.now }
         ensures { Walks piece.now from self result }
@@ -414,8 +422,18 @@ impl Search {
                     entry: None,
                 });
             }
-            let taken = settled.take(piece[at])?;
+            let taken = settled.take(piece[at]);
             at += 1;
+            let taken = match taken {
+                Ok(taken) => taken,
+                Err(stop) => {
+                    return Err(StoppedAt {
+                        at,
+                        search: settled,
+                        stop,
+                    });
+                }
+            };
             search = taken.search;
             if taken.entry.is_some() {
                 return Ok(Next {

@@ -6,7 +6,7 @@ ghost use Rattle.paper.specs.Text.{text};
 ghost use Rattle.paper.specs.Decimal.{decimal};
 ghost use Rattle.paper.specs.Rate.{choose};
 ghost use Rattle.paper.specs.RateLines.{signed, choice_words, rate_line, rate_lines, usual_rates};
-ghost use Rattle.page.specs.Page.{with_text};
+ghost use Rattle.page.specs.Page.{shown, with_text};
 ghost use Rattle.fitting.specs.Lines.{longest_signed, longest_choice, longest, longest_line};
 
 use decimal::{number_of, put_behind, put_decimal};
@@ -26,8 +26,8 @@ const USUAL: [u32; 20] = [
 
 // `+4693`, `-12` or `0`
 fn put_signed(page: &mut Page<'_>, deviation: i64)
-    requires { longest_signed ≤ page.old.room }
-    ensures { page.new ≡ with_text (signed deviation) page.old }
+    requires { longest_signed ≤ (shown page.old).room }
+    ensures { shown page.new ≡ with_text (signed deviation) (shown page.old) }
 {
     let size = printing::deviation_size(deviation);
     if size == 0 {
@@ -42,8 +42,8 @@ fn put_signed(page: &mut Page<'_>, deviation: i64)
 // `DIVISOR PERIOD DEVIATION`
 #[tactic(auto, using(decimal::proofs::Digits::decimal_of_32), unfolding(paper::specs::RateLines::choice_words))]
 fn put_chosen(page: &mut Page<'_>, chosen: Chosen)
-    requires { longest_choice ≤ page.old.room }
-    ensures text { page.new ≡ with_text (choice_words (Ok chosen)) page.old }
+    requires { longest_choice ≤ (shown page.old).room }
+    ensures text { shown page.new ≡ with_text (choice_words (Ok chosen)) (shown page.old) }
     ensures short { length (choice_words (Ok chosen)) ≤ longest_choice }
 {
     let Chosen { pair, deviation } = chosen;
@@ -56,8 +56,8 @@ fn put_chosen(page: &mut Page<'_>, chosen: Chosen)
 // `DIVISOR PERIOD DEVIATION`; or `refused 12`, `refused 13`.
 #[tactic(auto, unfolding(paper::specs::RateLines::choice_words))]
 fn put_choice(page: &mut Page<'_>, choosing: Result<Chosen, Refusal>)
-    requires { longest_choice ≤ page.old.room }
-    ensures text { page.new ≡ with_text (choice_words choosing) page.old }
+    requires { longest_choice ≤ (shown page.old).room }
+    ensures text { shown page.new ≡ with_text (choice_words choosing) (shown page.old) }
     ensures short { length (choice_words choosing) ≤ longest_choice }
 {
     match choosing {
@@ -68,8 +68,8 @@ fn put_choice(page: &mut Page<'_>, choosing: Result<Chosen, Refusal>)
 
 // What stands behind a rate's word: a space, the choice and a newline.
 fn put_answer(page: &mut Page<'_>, clock: u32, rate: u32)
-    requires { longest ≤ page.old.room }
-    ensures text { page.new ≡ with_text (text " " ++ choice_words (choose clock rate) ++ text "\n") page.old }
+    requires { longest ≤ (shown page.old).room }
+    ensures text { shown page.new ≡ with_text (text " " ++ choice_words (choose clock rate) ++ text "\n") (shown page.old) }
     ensures short { length (text " " ++ choice_words (choose clock rate) ++ text "\n") ≤ longest }
 {
     let choosing = choosing::choose(clock, rate);
@@ -81,8 +81,8 @@ fn put_answer(page: &mut Page<'_>, clock: u32, rate: u32)
 // The line of a rate: its word as it came, and the choice.
 #[tactic(auto, unfolding(paper::specs::RateLines::rate_line))]
 pub fn put_rate(page: &mut Page<'_>, clock: u32, word: &[u8])
-    requires { length word.now + longest ≤ page.old.room }
-    ensures { page.new ≡ with_text (rate_line clock word.now) page.old }
+    requires { length word.now + longest ≤ (shown page.old).room }
+    ensures { shown page.new ≡ with_text (rate_line clock word.now) (shown page.old) }
 {
     page.put_text(word);
     put_answer(page, clock, number_of(word));
@@ -91,8 +91,8 @@ pub fn put_rate(page: &mut Page<'_>, clock: u32, word: &[u8])
 // The line of a rate that came as a number: its word is the number in decimal.
 #[tactic(auto, using(decimal::proofs::Digits::decimal_of_32))]
 fn put_number(page: &mut Page<'_>, clock: u32, rate: u32)
-    requires { longest_line ≤ page.old.room }
-    ensures text { page.new ≡ with_text (rate_line clock (decimal rate)) page.old }
+    requires { longest_line ≤ (shown page.old).room }
+    ensures text { shown page.new ≡ with_text (rate_line clock (decimal rate)) (shown page.old) }
     ensures short { length (rate_line clock (decimal rate)) ≤ longest_line }
 {
     put_decimal(page, rate as usize);
@@ -101,8 +101,8 @@ fn put_number(page: &mut Page<'_>, clock: u32, rate: u32)
 
 // The lines of the usual rates.
 pub fn put_usual(page: &mut Page<'_>, clock: u32)
-    requires { 20 * longest_line ≤ page.old.room }
-    ensures { page.new ≡ with_text (rate_lines clock (map decimal usual_rates)) page.old }
+    requires { 20 * longest_line ≤ (shown page.old).room }
+    ensures { shown page.new ≡ with_text (rate_lines clock (map decimal usual_rates)) (shown page.old) }
 {
     for rate in USUAL {
         put_number(page, clock, rate);

@@ -5,7 +5,7 @@ ghost use Rattle.std.specs.Prelude.{◌≡◌, [], ◌∷◌, ◌≢◌, ◌+◌
 ghost use Rattle.paper.specs.Frames as paper;
 ghost use Rattle.hexadecimal.specs.LineSoFar.{value_or_16, digit_table, most_bytes, Fits, Gathers};
 ghost use Rattle.hexadecimal.specs.Steps.{counted, Keeps, Paired, Follows};
-ghost use Rattle.page.specs.Page.{with_text};
+ghost use Rattle.page.specs.Page.{shown, with_text};
 
 use page::Page;
 
@@ -191,16 +191,16 @@ pub fn capitals(byte: u8) -> [u8; 2]
 }
 
 pub fn put_byte(page: &mut Page<'_>, byte: u8)
-    requires { 2 ≤ page.old.room }
-    ensures { page.new ≡ with_text (paper.hexadecimal (byte ∷ [])) page.old }
+    requires { 2 ≤ (shown page.old).room }
+    ensures { shown page.new ≡ with_text (paper.hexadecimal (byte ∷ [])) (shown page.old) }
 {
     page.put_text(&capitals(byte));
 }
 
 // Bytes as two capitals each.
 pub fn put_bytes(page: &mut Page<'_>, bytes: &[u8])
-    requires { 2 * length bytes.now ≤ page.old.room }
-    ensures { page.new ≡ with_text (paper.hexadecimal bytes.now) page.old }
+    requires { 2 * length bytes.now ≤ (shown page.old).room }
+    ensures { shown page.new ≡ with_text (paper.hexadecimal bytes.now) (shown page.old) }
 {
     for byte in bytes {
         put_byte(page, *byte);

@@ -1,33 +1,15 @@
 // A page: a lent buffer that a text is put into, piece behind piece.
 #![tactic(auto)]
 
-ghost use Rattle.std.specs.Prelude.{◌≡◌, [], ◌∷◌, ◌≤◌, leb, length};
+ghost use Rattle.std.specs.Prelude.{◌≡◌, [], ◌∷◌, ◌≤◌, leb, length, take};
 ghost use Rattle.paper.specs.Decimal.{last_digits};
-ghost use Rattle.page.specs.Page.{blank, with_text};
 
-use std::marker::Model;
-
-// The buffer, and how many of its bytes are written.
+// The buffer, and how many of its bytes are written. What a page shows stands in specs/.
 #[derive(Drop)]
 pub struct Page<'a> {
     bytes: &'a mut [u8],
     end: usize,
-}
-
-// Clauses see the text so far, how many bytes more the page takes, and how many in all.
-impl<'a> Model for Page<'a> {
-    ghost use Rattle.std.specs.Prelude.{◌-◌, ◌≤◌, length, take};
-    ghost use Rattle.page.specs.Page.{Page as Text};
-
-    ghost Value = { Text };
-
-    ghost view = { λ p. record {
-      text = take p.end p.bytes.now;
-      room = length p.bytes.now - p.end;
-      capacity = length p.bytes.now;
-    } };
-
-    ghost invariant = { λ p. p.end ≤ length p.bytes.now };
+    pub ghost inside: { end ≤ length bytes.now },
 }
 
 // The last digits of a number, as many as there are bytes, from the last one back.
@@ -42,10 +24,12 @@ fn fill_digits(bytes: &mut [u8], number: usize)
 }
 
 impl<'a> Page<'a> {
+    ghost use Rattle.page.specs.Page.{shown, blank, with_text};
+
     // A page with nothing on it.
     #[inline]
     pub fn on(bytes: &'a mut [u8]) -> Page<'a>
-        ensures { result ≡ blank (length bytes.old) }
+        ensures { shown result ≡ blank (length bytes.old) bytes.entry.ghost_name }
     {
         Page { bytes, end: 0 }
     }
@@ -53,7 +37,7 @@ impl<'a> Page<'a> {
     // What was put on it.
     #[inline]
     pub fn text(&self) -> &[u8]
-        ensures { result.now ≡ self.now.text }
+        ensures { result.now ≡ (shown self.now).text }
     {
         &self.bytes[..self.end]
     }
@@ -61,7 +45,7 @@ impl<'a> Page<'a> {
     // How many bytes more it takes.
     #[inline]
     pub fn room(&self) -> usize
-        ensures { result ≡ self.now.room }
+        ensures { result ≡ (shown self.now).room }
     {
         self.bytes.len() - self.end
     }
@@ -69,7 +53,7 @@ impl<'a> Page<'a> {
     // Whether it takes so many.
     #[inline]
     pub fn takes(&self, more: usize) -> bool
-        ensures { result ≡ leb more self.now.room }
+        ensures { result ≡ leb more (shown self.now).room }
     {
         more <= self.room()
     }
@@ -77,7 +61,7 @@ impl<'a> Page<'a> {
     // The text goes, and the page is as it began.
     #[inline]
     pub fn clear(&mut self)
-        ensures { self.new ≡ blank self.old.capacity }
+        ensures { shown self.new ≡ blank (shown self.old).capacity (shown self.old).lent }
     {
         self.end = 0;
     }
@@ -85,8 +69,8 @@ impl<'a> Page<'a> {
     // One byte more.
     #[inline]
     pub fn push(&mut self, byte: u8)
-        requires { 1 ≤ self.old.room }
-        ensures { self.new ≡ with_text (byte ∷ []) self.old }
+        requires { 1 ≤ (shown self.old).room }
+        ensures { shown self.new ≡ with_text (byte ∷ []) (shown self.old) }
     {
         self.bytes[self.end] = byte;
         self.end += 1;
@@ -95,8 +79,8 @@ impl<'a> Page<'a> {
     // A text more.
     #[inline]
     pub fn put_text(&mut self, text: &[u8])
-        requires { length text.now ≤ self.old.room }
-        ensures { self.new ≡ with_text text.now self.old }
+        requires { length text.now ≤ (shown self.old).room }
+        ensures { shown self.new ≡ with_text text.now (shown self.old) }
     {
         let end = self.end + text.len();
         self.bytes[self.end..end].copy_from_slice(text);
@@ -106,11 +90,23 @@ impl<'a> Page<'a> {
     // The last of so many digits of a number.
     #[tactic(auto, using(crate::proofs::Digits::length_digits))]
     pub fn put_digits(&mut self, count: usize, number: usize)
-        requires { count ≤ self.old.room }
-        ensures { self.new ≡ with_text (last_digits count number) self.old }
+        requires { count ≤ (shown self.old).room }
+        ensures { shown self.new ≡ with_text (last_digits count number) (shown self.old) }
     {
         let end = self.end + count;
         fill_digits(&mut self.bytes[self.end..end], number);
         self.end = end;
     }
+}
+
+// A text at the front of a lent buffer, by a page that is gone when it returns: what was put on the page is there. Answers how many bytes that is.
+pub fn put_front(bytes: &mut [u8], text: &[u8]) -> usize
+    requires { length text.now ≤ length bytes.old }
+    ensures value { result ≡ length text.now }
+    ensures front { take result bytes.new ≡ text.now }
+    ensures same_length { length bytes.new ≡ length bytes.old }
+{
+    let mut page = Page::on(bytes);
+    page.put_text(text);
+    page.text().len()
 }

@@ -3,7 +3,7 @@
 
 ghost use Rattle.std.specs.Prelude.{◌≡◌, [], ◌∷◌, ◌+◌, ◌*◌, ◌<◌, ◌≤◌, nat_abs, length};
 ghost use Rattle.paper.specs.Numbers.{fate_number, negative, numbers};
-ghost use Rattle.page.specs.Page.{with_text};
+ghost use Rattle.page.specs.Page.{shown, with_text};
 ghost use Rattle.printing.specs.Printed.{refusal_number, line_of, longest, SmallRefusal, SmallRead};
 
 use hexadecimal::{capitals, put_bytes};
@@ -18,8 +18,8 @@ const NEWLINE: u8 = 10;
 // A line of numbers.
 #[tactic(auto, using(hexadecimal::proofs::Laws::length_hexadecimal))]
 fn put_numbers(page: &mut Page<'_>, numbers: &[u8])
-    requires { 2 * length numbers.now < page.old.room }
-    ensures { page.new ≡ with_text (line_of numbers.now) page.old }
+    requires { 2 * length numbers.now < (shown page.old).room }
+    ensures { shown page.new ≡ with_text (line_of numbers.now) (shown page.old) }
 {
     put_bytes(page, numbers);
     page.push(NEWLINE);
@@ -27,8 +27,8 @@ fn put_numbers(page: &mut Page<'_>, numbers: &[u8])
 
 // One number: "00 alone", or a refusal's.
 pub fn put_alone(page: &mut Page<'_>, number: u8)
-    requires { 3 ≤ page.old.room }
-    ensures { page.new ≡ with_text (line_of (number ∷ [])) page.old }
+    requires { 3 ≤ (shown page.old).room }
+    ensures { shown page.new ≡ with_text (line_of (number ∷ [])) (shown page.old) }
 {
     let [high, low] = capitals(number);
     page.put_text(&[high, low, NEWLINE]);
@@ -36,8 +36,8 @@ pub fn put_alone(page: &mut Page<'_>, number: u8)
 
 // Two numbers: 00 and "fate", "taken", "00" or "the channel picked, FF for none"; or a refusal's and what follows it.
 pub fn put_pair(page: &mut Page<'_>, first: u8, second: u8)
-    requires { 5 ≤ page.old.room }
-    ensures { page.new ≡ with_text (line_of (first ∷ second ∷ [])) page.old }
+    requires { 5 ≤ (shown page.old).room }
+    ensures { shown page.new ≡ with_text (line_of (first ∷ second ∷ [])) (shown page.old) }
 {
     let [first_high, first_low] = capitals(first);
     let [second_high, second_low] = capitals(second);
@@ -82,8 +82,8 @@ pub fn negative_number(deviation: i64) -> u8
 
 // A refusal's line: "Answers begin with 00 or the refusal number (5 is followed by its field)", and 8 by "the place of the offending FF".
 pub fn put_refused(page: &mut Page<'_>, refusal: Refusal)
-    requires { longest ≤ page.old.room × SmallRefusal refusal }
-    ensures { page.new ≡ with_text (line_of (numbers (Answer.Refused refusal) [])) page.old }
+    requires { longest ≤ (shown page.old).room × SmallRefusal refusal }
+    ensures { shown page.new ≡ with_text (line_of (numbers (Answer.Refused refusal) [])) (shown page.old) }
 {
     let number = refusal_number(refusal);
     match refusal {
@@ -111,8 +111,8 @@ pub fn fate_number(fate: Fate) -> u8
 
 // "characters, flagged, bytes": of the lent bytes those that were written.
 pub fn put_handed(page: &mut Page<'_>, characters: usize, flagged: usize, bytes: usize, lent: &[u8])
-    requires { longest ≤ page.old.room × SmallRead characters flagged bytes lent.now }
-    ensures { page.new ≡ with_text (line_of (numbers (Answer.Handed characters flagged bytes) lent.now)) page.old }
+    requires { longest ≤ (shown page.old).room × SmallRead characters flagged bytes lent.now }
+    ensures { shown page.new ≡ with_text (line_of (numbers (Answer.Handed characters flagged bytes) lent.now)) (shown page.old) }
 {
     let counts = [0, characters as u8, flagged as u8];
     put_bytes(page, &counts);
@@ -121,8 +121,8 @@ pub fn put_handed(page: &mut Page<'_>, characters: usize, flagged: usize, bytes:
 
 // "01 and the byte sent"
 pub fn put_sent(page: &mut Page<'_>, byte: u8)
-    requires { longest ≤ page.old.room }
-    ensures { page.new ≡ with_text (line_of (numbers (Answer.Sent byte) [])) page.old }
+    requires { longest ≤ (shown page.old).room }
+    ensures { shown page.new ≡ with_text (line_of (numbers (Answer.Sent byte) [])) (shown page.old) }
 {
     let [high, low] = capitals(byte);
     page.put_text(&[b'0', b'0', b'0', b'1', high, low, NEWLINE]);
@@ -130,8 +130,8 @@ pub fn put_sent(page: &mut Page<'_>, byte: u8)
 
 // "waiting, transmit waiting, stopped, loss high, loss low"
 pub fn put_shown(page: &mut Page<'_>, waiting: usize, sending: usize, stopped: bool, losses: u16)
-    requires { longest ≤ page.old.room × ((waiting < 256) × (sending < 256)) }
-    ensures { page.new ≡ with_text (line_of (numbers (Answer.Shown waiting sending stopped losses) [])) page.old }
+    requires { longest ≤ (shown page.old).room × ((waiting < 256) × (sending < 256)) }
+    ensures { shown page.new ≡ with_text (line_of (numbers (Answer.Shown waiting sending stopped losses) [])) (shown page.old) }
 {
     let [waiting_high, waiting_low] = capitals(waiting as u8);
     let [sending_high, sending_low] = capitals(sending as u8);

@@ -13,7 +13,7 @@ use Rattle.finding.specs.Bounds.{SoundSearch}
 use Rattle.finding.specs.Walk.{Goes, Stops}
 use Rattle.finding.specs.declared.Search.{Search}
 use Rattle.finding.specs.declared.Next.{Next}
-use Rattle.finding.specs.declared.Stop.{Stop}
+use Rattle.finding.specs.declared.StoppedAt.{StoppedAt}
 use Rattle.std.specs.Prelude.{Option, Some, None}
 use Rattle.paper.specs.declared.Entry.{Entry}
 use Rattle.page.specs.Page.{Page, with_text}
@@ -74,15 +74,15 @@ module _ {piece : List ℕ} {from : ℕ} {s₀ : Search} {page₀ : Page} {at : 
       }
 
   -- or it was the last line
-  pub ends : {e : Stop} → Stops piece at s e → {page' : Page} → page' ≡ with_text (stop_line e) page
-      → Reports s₀ piece from page₀ (record { search = s; at = length piece; over = true }) page'
+  pub ends : {e : StoppedAt} → Stops piece at s e → {page' : Page} → page' ≡ with_text (stop_line e.stop) page
+      → Reports s₀ piece from page₀ (record { search = e.search; at = e.at; over = true }) page'
   unfolding stop_line
   ends {e} stops {page'} wrote =
       record {
         whole = λ rest.
             append-nil page'.text ∙ rw wrote (ap (page.text ++◌) (ap sheet_of (sym (stops.comes rest))) ∙ here.so_far rest);
-        sound = here.sound;
-        onward = λ some room. some;
-        within = omega arith;
+        sound = stops.sound;
+        onward = λ some room. omega (arith, stops.further, here.onward.1);
+        within = stops.within;
         same = rw wrote here.same;
       }

@@ -3,7 +3,7 @@
 
 ghost use Rattle.std.specs.Prelude.{◌≡◌, ◌≤◌, length};
 ghost use Rattle.finding.specs.Bounds.{SoundSearch};
-ghost use Rattle.page.specs.Page.{with_text};
+ghost use Rattle.page.specs.Page.{shown, with_text};
 ghost use Rattle.sheet.specs.Lines.{longest};
 ghost use Rattle.reporting.specs.Reports as the;
 
@@ -23,8 +23,8 @@ pub struct Reported {
 // The line of an entry, if one was told.
 #[tactic(auto, unfolding(crate::specs::Reports::told_line))]
 fn put_told(page: &mut Page<'_>, told: Option<Entry>)
-    requires { longest ≤ page.old.room }
-    ensures { page.new ≡ with_text (the.told_line told) page.old }
+    requires { longest ≤ (shown page.old).room }
+    ensures { shown page.new ≡ with_text (the.told_line told) (shown page.old) }
 {
     if let Some(entry) = told {
         put_entry(page, entry);
@@ -34,8 +34,8 @@ fn put_told(page: &mut Page<'_>, told: Option<Entry>)
 // The last line: nothing follows a broken FF, nor a character that cannot be counted.
 #[tactic(auto, unfolding(crate::specs::Reports::stop_line))]
 fn put_stop(page: &mut Page<'_>, stop: Stop)
-    requires { longest ≤ page.old.room }
-    ensures { page.new ≡ with_text (the.stop_line stop) page.old }
+    requires { longest ≤ (shown page.old).room }
+    ensures { shown page.new ≡ with_text (the.stop_line stop) (shown page.old) }
 {
     match stop {
         Stop::Broken(place) => put_broken(page, place),
@@ -48,7 +48,7 @@ fn put_stop(page: &mut Page<'_>, stop: Stop)
 #[tactic(auto, using(crate::proofs::Loop::starts, crate::proofs::Loop::stops_at_end, crate::proofs::Loop::stops_full))]
 pub fn report(start: Search, piece: &[u8], from: usize, page: &mut Page<'_>) -> Reported
     requires { SoundSearch start × (from ≤ length piece.now) }
-    ensures { the.Reports start piece.now from page.old result page.new }
+    ensures { the.Reports start piece.now from (shown page.old) result (shown page.new) }
 {
     let mut search = start;
     let mut at = from;
@@ -59,11 +59,11 @@ pub fn report(start: Search, piece: &[u8], from: usize, page: &mut Page<'_>) -> 
                 at = next.at;
                 put_told(page, next.entry);
             }
-            Err(stop) => {
-                put_stop(page, stop);
+            Err(stopped) => {
+                put_stop(page, stopped.stop);
                 return Reported {
-                    search,
-                    at: piece.len(),
+                    search: stopped.search,
+                    at: stopped.at,
                     over: true,
                 };
             }
@@ -78,8 +78,8 @@ pub fn report(start: Search, piece: &[u8], from: usize, page: &mut Page<'_>) -> 
 
 // The last line at the input's end: `litres SUM`, or `refused 8 PLACE` where a character is "cut off at the end".
 pub fn finish(search: Search, page: &mut Page<'_>)
-    requires { longest ≤ page.old.room }
-    ensures { the.Finishes search page.old page.new }
+    requires { longest ≤ (shown page.old).room }
+    ensures { the.Finishes search (shown page.old) (shown page.new) }
 {
     match search.part {
         PartRead::Nothing => put_litres(page, search.finder.sum),

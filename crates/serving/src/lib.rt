@@ -2,6 +2,7 @@
 #![tactic(auto)]
 
 ghost use Rattle.std.specs.Prelude.{◌≤◌, length};
+ghost use Rattle.page.specs.Page.{shown};
 ghost use Rattle.card.specs.Held.{Sound};
 ghost use Rattle.hexadecimal.specs.LineSoFar.{Fits};
 ghost use Rattle.serving.specs.Served.{Serves};
@@ -28,12 +29,12 @@ pub struct Served {
     pub spot: Spot,
 }
 
-// Serves a piece from a spot on, until it ends or there is no room for one answer line more. The channels stay where they are: a call gets a copy of
-// one, and the channel after it comes back. Each call has an arm of its own; what is found for a channel is for one of the four, so the remainder is
+// Serves a piece from a spot on, until it ends or there is no room for one answer line more. The channels stay where they are: a call is lent one,
+// and the channel after it is left there. Each call has an arm of its own; what is found for a channel is for one of the four, so the remainder is
 // its number.
 pub fn serve(start: Card, piece: &[u8], from: Spot, frame: &mut [u8], page: &mut Page<'_>) -> Served
     requires { Sound start × (Fits from.line frame.old × (from.at ≤ length piece.now)) }
-    ensures { Serves start piece.now from frame.old page.old result frame.new page.new }
+    ensures { Serves start piece.now from frame.old (shown page.old) result frame.new (shown page.new) }
 {
     let digits = hexadecimal::digits();
     let mut ports = start.channels;

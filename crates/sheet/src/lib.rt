@@ -5,7 +5,7 @@ ghost use Rattle.std.specs.Prelude.{◌≡◌, ◌++◌, ◌+◌, ◌<◌, ◌�
 ghost use Rattle.paper.specs.Text.{text};
 ghost use Rattle.paper.specs.Decimal.{decimal};
 ghost use Rattle.paper.specs.Yield.{words, judgement_words, line_of, litres_line, broken_line, full_line};
-ghost use Rattle.page.specs.Page.{with_text};
+ghost use Rattle.page.specs.Page.{shown, with_text};
 ghost use Rattle.sheet.specs.Lines.{longest, longest_said, longest_judgement};
 
 use decimal::{put_behind, put_decimal};
@@ -18,8 +18,8 @@ pub const LONGEST: usize = 20 + 1 + 9 + 4 + 1 + 10 + 1;
 
 // A text, a number and a newline: each of the last lines, and the end of an entry's.
 fn put_line(page: &mut Page<'_>, told: &[u8], number: usize)
-    requires { length told.now + length (decimal number) < page.old.room }
-    ensures { page.new ≡ with_text (told.now ++ decimal number ++ text "\n") page.old }
+    requires { length told.now + length (decimal number) < (shown page.old).room }
+    ensures { shown page.new ≡ with_text (told.now ++ decimal number ++ text "\n") (shown page.old) }
 {
     put_behind(page, told, number);
     page.put_text(b"\n");
@@ -28,8 +28,8 @@ fn put_line(page: &mut Page<'_>, told: &[u8], number: usize)
 // `NUMBER LITRES` behind the word for how it is judged, and a newline: the number with its four digits, litres without leading zeros.
 #[tactic(auto, using(decimal::proofs::Digits::decimal_of_32), unfolding(paper::specs::Yield::words))]
 fn put_said(page: &mut Page<'_>, judged: &[u8], said: Confirmation)
-    requires { length judged.now + longest_said ≤ page.old.room }
-    ensures { page.new ≡ with_text (judged.now ++ (words said ++ text "\n")) page.old }
+    requires { length judged.now + longest_said ≤ (shown page.old).room }
+    ensures { shown page.new ≡ with_text (judged.now ++ (words said ++ text "\n")) (shown page.old) }
 {
     page.put_text(judged);
     page.put_digits(4, said.number as usize);
@@ -39,8 +39,8 @@ fn put_said(page: &mut Page<'_>, judged: &[u8], said: Confirmation)
 // `accepted NUMBER LITRES`, `gap NUMBER LITRES`, `repeated NUMBER LITRES` or `aside`, and a newline.
 #[tactic(auto, unfolding(paper::specs::Yield::judgement_words))]
 fn put_judgement(page: &mut Page<'_>, judgement: Judgement)
-    requires { longest_judgement ≤ page.old.room }
-    ensures { page.new ≡ with_text (judgement_words judgement ++ text "\n") page.old }
+    requires { longest_judgement ≤ (shown page.old).room }
+    ensures { shown page.new ≡ with_text (judgement_words judgement ++ text "\n") (shown page.old) }
 {
     match judgement {
         Judgement::Accepted(said) => put_said(page, b"accepted ", said),
@@ -53,8 +53,8 @@ fn put_judgement(page: &mut Page<'_>, judgement: Judgement)
 // An entry's line: its place, and how it is judged.
 #[tactic(auto, using(decimal::proofs::Digits::decimal_of_64), unfolding(paper::specs::Yield::line_of))]
 pub fn put_entry(page: &mut Page<'_>, entry: Entry)
-    requires { longest ≤ page.old.room }
-    ensures { page.new ≡ with_text (line_of entry) page.old }
+    requires { longest ≤ (shown page.old).room }
+    ensures { shown page.new ≡ with_text (line_of entry) (shown page.old) }
 {
     put_decimal(page, entry.place);
     page.put_text(b" ");
@@ -64,8 +64,8 @@ pub fn put_entry(page: &mut Page<'_>, entry: Entry)
 // `litres SUM`
 #[tactic(auto, using(decimal::proofs::Digits::decimal_of_64), unfolding(paper::specs::Yield::litres_line))]
 pub fn put_litres(page: &mut Page<'_>, sum: usize)
-    requires { longest ≤ page.old.room }
-    ensures { page.new ≡ with_text (litres_line sum) page.old }
+    requires { longest ≤ (shown page.old).room }
+    ensures { shown page.new ≡ with_text (litres_line sum) (shown page.old) }
 {
     put_line(page, b"litres ", sum);
 }
@@ -73,8 +73,8 @@ pub fn put_litres(page: &mut Page<'_>, sum: usize)
 // `refused 8 PLACE`, the place in bytes.
 #[tactic(auto, using(decimal::proofs::Digits::decimal_of_64), unfolding(paper::specs::Yield::broken_line))]
 pub fn put_broken(page: &mut Page<'_>, place: usize)
-    requires { longest ≤ page.old.room }
-    ensures { page.new ≡ with_text (broken_line place) page.old }
+    requires { longest ≤ (shown page.old).room }
+    ensures { shown page.new ≡ with_text (broken_line place) (shown page.old) }
 {
     put_line(page, b"refused 8 ", place);
 }
@@ -82,8 +82,8 @@ pub fn put_broken(page: &mut Page<'_>, place: usize)
 // `full PLACE`, the place among the characters.
 #[tactic(auto, using(decimal::proofs::Digits::decimal_of_64), unfolding(paper::specs::Yield::full_line))]
 pub fn put_full(page: &mut Page<'_>, place: usize)
-    requires { longest ≤ page.old.room }
-    ensures { page.new ≡ with_text (full_line place) page.old }
+    requires { longest ≤ (shown page.old).room }
+    ensures { shown page.new ≡ with_text (full_line place) (shown page.old) }
 {
     put_line(page, b"full ", place);
 }

@@ -3,6 +3,7 @@
 #![tactic(auto)]
 
 ghost use Rattle.std.specs.Prelude.{◌≡◌, ℕ, ◌≤◌, length, take, IfSome};
+ghost use Rattle.page.specs.Page.{shown};
 ghost use Rattle.card.specs.Held.{Sound};
 ghost use Rattle.hexadecimal.specs.LineSoFar.{Fits};
 ghost use Rattle.printing.specs.Printed.{longest};
@@ -33,8 +34,8 @@ fn answer(
     frame: &mut [u8],
     page: &mut Page<'_>,
 ) -> Option<Carried>
-    requires { Sound before.card × (Fits before.line frame.old × (longest ≤ page.old.capacity)) }
-    ensures same_page { page.new.capacity ≡ page.old.capacity }
+    requires { Sound before.card × (Fits before.line frame.old × (longest ≤ (shown page.old).capacity)) }
+    ensures same_page { (shown page.new).capacity ≡ (shown page.old).capacity }
     ensures sound { IfSome result (λ after. Sound after.card × Fits after.line frame.new) }
     ensures piece_served { IfSome result (λ after. PieceServed piece.now
         (record { card = before.card; line = before.line; frame = frame.old })

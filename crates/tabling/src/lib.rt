@@ -5,7 +5,7 @@ ghost use Rattle.std.specs.Prelude.{◌≡◌, [], ◌∷◌, ◌*◌, ◌≤◌
 ghost use Rattle.paper.specs.Text.{each};
 ghost use Rattle.paper.specs.TwoBoxes.{eight};
 ghost use Rattle.paper.specs.EndingLines.{ending_words, column_of, table_line, ending_text};
-ghost use Rattle.page.specs.Page.{with_text};
+ghost use Rattle.page.specs.Page.{shown, with_text};
 ghost use Rattle.refusing.specs.Words.{longest_refusal};
 ghost use Rattle.tabling.specs.Lines.{longest_pair, longest_column, longest_line, longest_table};
 
@@ -22,8 +22,8 @@ pub const LONGEST_TABLE: usize = 18 + 8 * (1 + 8 * 4 + 1);
 // `0` to `7`, or `none`; or `refused 5 4`.
 #[tactic(auto, using(decimal::proofs::Digits::decimal_of_8), unfolding(paper::specs::EndingLines::ending_words))]
 fn put_answer(page: &mut Page<'_>, answer: Result<Option<u8>, Refusal>)
-    requires { longest_refusal ≤ page.old.room }
-    ensures text { page.new ≡ with_text (ending_words answer) page.old }
+    requires { longest_refusal ≤ (shown page.old).room }
+    ensures text { shown page.new ≡ with_text (ending_words answer) (shown page.old) }
     ensures short { length (ending_words answer) ≤ longest_refusal }
 {
     match answer {
@@ -36,8 +36,8 @@ fn put_answer(page: &mut Page<'_>, answer: Result<Option<u8>, Refusal>)
 // The line of a pair of words.
 #[tactic(auto, unfolding(paper::specs::EndingLines::ending_text))]
 pub fn put_pair(page: &mut Page<'_>, first: &[u8], second: &[u8])
-    requires { longest_pair ≤ page.old.room }
-    ensures { page.new ≡ with_text (ending_text (first.now ∷ second.now ∷ [])) page.old }
+    requires { longest_pair ≤ (shown page.old).room }
+    ensures { shown page.new ≡ with_text (ending_text (first.now ∷ second.now ∷ [])) (shown page.old) }
 {
     let answer = joining::one_ending(number_of(first), number_of(second));
     put_answer(page, answer);
@@ -49,8 +49,8 @@ pub fn put_pair(page: &mut Page<'_>, first: &[u8], second: &[u8])
 fn put_column(page: &mut Page<'_>, first: u32, second: u32)
     requires first_bound { first ≤ 7 }
     requires second_bound { second ≤ 7 }
-    requires longest_column_in_bounds { longest_column ≤ page.old.room }
-    ensures text { page.new ≡ with_text (column_of first second) page.old }
+    requires longest_column_in_bounds { longest_column ≤ (shown page.old).room }
+    ensures text { shown page.new ≡ with_text (column_of first second) (shown page.old) }
     ensures short { length (column_of first second) ≤ longest_column }
 {
     match joining::one_ending(first, second) {
@@ -62,8 +62,8 @@ fn put_column(page: &mut Page<'_>, first: u32, second: u32)
 // A column for each second box.
 fn put_columns(page: &mut Page<'_>, first: u32)
     requires first_bound { first ≤ 7 }
-    requires longest_column_in_bounds { 8 * longest_column ≤ page.old.room }
-    ensures text { page.new ≡ with_text (each (column_of first) eight) page.old }
+    requires longest_column_in_bounds { 8 * longest_column ≤ (shown page.old).room }
+    ensures text { shown page.new ≡ with_text (each (column_of first) eight) (shown page.old) }
     ensures short { length (each (column_of first) eight) ≤ 8 * longest_column }
 {
     for second in 0..8 {
@@ -75,8 +75,8 @@ fn put_columns(page: &mut Page<'_>, first: u32)
 #[tactic(auto, using(crate::proofs::Lines::first_few), unfolding(paper::specs::EndingLines::table_line))]
 fn put_line(page: &mut Page<'_>, first: u32)
     requires first_bound { first ≤ 7 }
-    requires longest_line_in_bounds { longest_line ≤ page.old.room }
-    ensures text { page.new ≡ with_text (table_line first) page.old }
+    requires longest_line_in_bounds { longest_line ≤ (shown page.old).room }
+    ensures text { shown page.new ≡ with_text (table_line first) (shown page.old) }
     ensures short { length (table_line first) ≤ longest_line }
 {
     put_decimal(page, first as usize);
@@ -86,8 +86,8 @@ fn put_line(page: &mut Page<'_>, first: u32)
 
 // A line for each first box.
 fn put_lines(page: &mut Page<'_>)
-    requires { 8 * longest_line ≤ page.old.room }
-    ensures { page.new ≡ with_text (each table_line eight) page.old }
+    requires { 8 * longest_line ≤ (shown page.old).room }
+    ensures { shown page.new ≡ with_text (each table_line eight) (shown page.old) }
 {
     for first in 0..8 {
         put_line(page, first);
@@ -96,8 +96,8 @@ fn put_lines(page: &mut Page<'_>)
 
 // The table of 64, below its head line.
 pub fn put_table(page: &mut Page<'_>)
-    requires { longest_table ≤ page.old.room }
-    ensures { page.new ≡ with_text (ending_text []) page.old }
+    requires { longest_table ≤ (shown page.old).room }
+    ensures { shown page.new ≡ with_text (ending_text []) (shown page.old) }
 {
     page.put_text(b"  0 1 2 3 4 5 6 7\n");
     put_lines(page);

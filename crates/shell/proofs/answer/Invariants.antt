@@ -1,4 +1,5 @@
 use Rattle.std.proofs.Common.{◌-◌, ◌≡◌, ◌≤◌, length}
+use Rattle.page.specs.Page.{shown}
 use Rattle.printing.specs.Printed.{longest}
 use Rattle.shell.proofs.Pieces.{Begun}
 use Rattle.shell.proofs.answer.Given as goal
@@ -8,8 +9,8 @@ invariant-loop-at g l =
     record {
       begun : Begun l.piece (record { card = l.initial.card; line = l.initial.line; frame = l.initial.frame }) l.at
           (record { card = l.card; line = l.line; frame = l.frame });
-      room : longest ≤ l.page.capacity;
-      same : l.page.capacity ≡ l.initial.page.capacity;
+      room : longest ≤ (shown l.page).capacity;
+      same : (shown l.page).capacity ≡ (shown l.initial.page).capacity;
     }
 
 abbrev pub decreases-loop-at : goal.decreases-loop-at

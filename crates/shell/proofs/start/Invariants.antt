@@ -1,4 +1,5 @@
 use Rattle.std.proofs.Common.{◌≡◌, length}
+use Rattle.page.specs.Page.{shown}
 use Rattle.card.specs.Held.{Sound}
 use Rattle.hexadecimal.specs.LineSoFar.{Fits}
 use Rattle.shell.proofs.start.Given as goal
@@ -9,5 +10,5 @@ invariant-loop g l =
       sound : Sound l.carried.card;
       fits : Fits l.carried.line l.frame;
       piece : length l.piece ≡ 65536;
-      page : l.page.capacity ≡ 65536;
+      page : (shown l.page).capacity ≡ 65536;
     }
