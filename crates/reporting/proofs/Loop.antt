@@ -36,16 +36,17 @@ pub record Standing (piece : List ℕ) (from : ℕ) (s₀ : Search) (page₀ : P
   pub onward : (at ≡ from → page.room ≡ page₀.room) × (from ≤ at)
   pub within : at ≤ length piece
   pub same : page.capacity ≡ page₀.capacity
+  pub lent : page.lent ≡ page₀.lent
 
 pub starts : {piece : List ℕ} {from : ℕ} {s : Search} {page : Page} → SoundSearch s → from ≤ length piece → Standing piece from s page from s page
-starts sound within = record { so_far = λ rest. refl; sound = sound; onward = ((λ e. refl), omega arith); within = within; same = refl }
+starts sound within = record { so_far = λ rest. refl; sound = sound; onward = ((λ e. refl), omega arith); within = within; same = refl; lent = refl }
 
 module _ {piece : List ℕ} {from : ℕ} {s₀ : Search} {page₀ : Page} {at : ℕ} {s : Search} {page : Page}
     (here : Standing piece from s₀ page₀ at s page) where
   -- the loop stops at the piece's end, or where there is no room for one line more; so it moved, where there was some
   stops : (from < length piece → longest ≤ page₀.room → from < at)
       → Reports s₀ piece from page₀ (record { search = s; at = at; over = false }) page
-  stops onward = record { whole = here.so_far; sound = here.sound; onward = onward; within = here.within; same = here.same }
+  stops onward = record { whole = here.so_far; sound = here.sound; onward = onward; within = here.within; same = here.same; lent = here.lent }
 
   pub stops_at_end : length piece ≤ at → Reports s₀ piece from page₀ (record { search = s; at = at; over = false }) page
   stops_at_end end = stops (λ more room. omega arith)
@@ -71,6 +72,7 @@ module _ {piece : List ℕ} {from : ℕ} {s₀ : Search} {page₀ : Page} {at : 
         onward = ((λ e. omega (arith, goes.further more, here.onward.1, e)), omega (arith, goes.further more, here.onward.1));
         within = goes.follows.within;
         same = rw wrote here.same;
+        lent = rw wrote here.lent;
       }
 
   -- or it was the last line
@@ -85,4 +87,5 @@ module _ {piece : List ℕ} {from : ℕ} {s₀ : Search} {page₀ : Page} {at : 
         onward = λ some room. omega (arith, stops.further, here.onward.1);
         within = stops.within;
         same = rw wrote here.same;
+        lent = rw wrote here.lent;
       }

@@ -46,6 +46,7 @@ pub record Reports (s : Search) (piece : List ℕ) (from : ℕ) (before : Page) 
   pub onward : from < length piece → longest ≤ before.room → from < r.at
   pub within : r.at ≤ length piece
   pub same : after.capacity ≡ before.capacity
+  pub lent : after.lent ≡ before.lent
 
 -- what is left at the input's end
 abbrev pub Finishes : Search → (before after : Page) → Type 0
