@@ -38,7 +38,7 @@ unfoldable pub stop_line : Stop → List ℕ
 stop_line e = ending_line (stopped e)
 
 -- What was written, and after it what is still to be written for all that is left, is what was to be written for the whole: the piece from the place
--- on, and whatever comes after the piece. So it does not matter where the input is cut.
+-- on, and whatever comes after the piece. So it does not matter where the input is cut. The page stays on the buffer that it was on.
 pub record Reports (s : Search) (piece : List ℕ) (from : ℕ) (before : Page) (r : Reported) (after : Page) : Type 0 where
   pub whole : (rest : List ℕ) → after.text ++ still_of r.over r.search (drop r.at piece ++ rest)
       ≡ before.text ++ left_of s (drop from piece ++ rest)
