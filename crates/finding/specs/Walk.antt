@@ -20,7 +20,7 @@ pub record Goes (piece : List ℕ) (from : ℕ) (s : Search) (n : Next) : Type 0
   pub further : from < length piece → from < n.at
   pub to_the_end : n.entry ≡ None → n.at ≡ length piece
 
--- a byte of the piece, before any that tells an entry, beyond which it goes no further; it stands behind that byte
+-- a byte of the piece, before any that tells an entry, beyond which it goes no further; and a place further on, and a sound search
 pub record Stops (piece : List ℕ) (from : ℕ) (s : Search) (e : StoppedAt) : Type 0 where
   pub comes : (rest : List ℕ) → outcome s (drop from piece ++ rest) ≡ ends (stopped e.stop)
   pub sound : SoundSearch e.search
